@@ -1,0 +1,16 @@
+-- `clock::top` meets its contract. Assumes nothing.
+use mathlib.Core.Path.{refl}
+use Rattle.clock.specs.Word.{top, span}
+use borrow.Author.Needs.{needs}
+use Rattle.clock.proofs.top.Statement.{statement}
+use Rattle.clock.proofs.top.Tie as tie
+
+sub-result : tie.Need-sub-result
+sub-result c = search needs
+
+returns : tie.Need-returns
+unfolding top span
+returns c = refl
+
+pub top-spec : {M : Type 1} → statement M
+top-spec = tie.close (tie.spec sub-result returns)

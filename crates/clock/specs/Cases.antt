@@ -1,0 +1,64 @@
+-- P1 to P4 of document 01, and both sides of each limit of the word, computed from the definitions.
+use Prim.Native.Nat.{ℕ, _+_}
+use mathlib.Core.Path.{_≡_, refl}
+use mathlib.Core.Bool.{Bool, true, false}
+use mathlib.Core.List.{List, [], _∷_}
+use Rattle.clock.specs.declared.Packed.{Packed}
+use Rattle.clock.specs.declared.Packed.the-variants.{Word, Refused}
+use Rattle.clock.specs.Word.{distanceBits, timeBits, reach, span, top, lockBit, distance, writeTime, isLocked, word, fresh, extended, packed, freshAt, extendedTo}
+
+-- an answer in numbers: a word is itself, its write time and its distance; a refusal its number alone
+unfoldable pub told : Packed → List ℕ
+told (Refused n) = n ∷ []
+told (Word w) = w ∷ writeTime w ∷ distance w ∷ []
+
+unfoldable pub wordCases : List (List ℕ)
+wordCases =
+    told (packed true 5 3)
+    ∷ told (extendedTo (fresh 2) 32769)
+    ∷ told (extendedTo (fresh 2) 32770)
+    ∷ told (extendedTo (fresh 2) 32771)
+    ∷ []
+
+unfoldable pub wordDue : List (List ℕ)
+wordDue =
+    (9224779411738329091 ∷ 3 ∷ 5 ∷ [])
+    ∷ (9223090561878065154 ∷ 2 ∷ 32767 ∷ [])
+    ∷ (32770 ∷ 32770 ∷ 0 ∷ [])
+    ∷ (281474976743426 ∷ 32770 ∷ 1 ∷ [])
+    ∷ []
+
+pub word-cases : wordCases ≡ wordDue
+unfolding wordCases wordDue told reach span top lockBit isLocked distance writeTime word fresh extended packed freshAt extendedTo
+word-cases = refl
+
+-- the greatest distance and the greatest time are taken, one more is refused
+unfoldable pub limitCases : List (List ℕ)
+limitCases =
+    told (packed false 32767 0)
+    ∷ told (packed false 32768 0)
+    ∷ told (packed false 0 281474976710655)
+    ∷ told (packed false 0 281474976710656)
+    ∷ told (freshAt 281474976710655)
+    ∷ told (freshAt 281474976710656)
+    ∷ told (extendedTo (fresh 281474976710655) 281474976710655)
+    ∷ told (extendedTo (fresh 281474976710655) 281474976710656)
+    ∷ told (extendedTo (fresh 2) 1)
+    ∷ []
+
+unfoldable pub limitDue : List (List ℕ)
+limitDue =
+    (9223090561878065152 ∷ 0 ∷ 32767 ∷ [])
+    ∷ (2 ∷ [])
+    ∷ (281474976710655 ∷ 281474976710655 ∷ 0 ∷ [])
+    ∷ (2 ∷ [])
+    ∷ (281474976710655 ∷ 281474976710655 ∷ 0 ∷ [])
+    ∷ (2 ∷ [])
+    ∷ (281474976710655 ∷ 281474976710655 ∷ 0 ∷ [])
+    ∷ (2 ∷ [])
+    ∷ (2 ∷ [])
+    ∷ []
+
+pub limit-cases : limitCases ≡ limitDue
+unfolding limitCases limitDue told reach span top lockBit isLocked distance writeTime word fresh extended packed freshAt extendedTo
+limit-cases = refl

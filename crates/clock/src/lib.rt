@@ -1,0 +1,126 @@
+// The clock word: lock, distance and write time in 64 bits. This crate alone knows the bits.
+ghost use mathlib.Core.Path.{_≡_};
+ghost use Prim.Native.Nat.{_<_, _≤_};
+ghost use mathlib.Core.Bool.{true, false};
+ghost use Rattle.clock.specs.Word.{reach, top, isLocked, distance, writeTime, readTime, partsOf, word, withLock, packed, freshAt, extendedTo};
+
+// A word, or refusal 2 where the parts or the time are not to be had in one.
+pub enum Packed {
+    Word(u64),
+    Refused(u64),
+}
+
+// A word read apart.
+pub struct Parts {
+    pub locked: bool,
+    pub distance: u64,
+    pub written: u64,
+    pub read: u64,
+}
+
+// One more than the greatest distance.
+const REACH: u64 = 32768;
+
+// One more than the greatest time.
+const SPAN: u64 = 281474976710656;
+
+const LOCK: u64 = REACH * SPAN;
+
+// The word of parts that fit.
+fn join(locked: bool, distance: u64, written: u64) -> u64
+    requires { ⌜ (distance < reach) × (written ≤ top) ⌝ }
+    ensures { λ r. ⌜ r ≡ word locked distance written ⌝ }
+{
+    (locked as u64) * LOCK + distance * SPAN + written
+}
+
+// The greatest time, T.
+pub fn top() -> u64
+    ensures { λ r. ⌜ r ≡ top ⌝ }
+{
+    SPAN - 1
+}
+
+pub fn is_locked(w: u64) -> bool
+    ensures { λ r. ⌜ r ≡ isLocked w ⌝ }
+{
+    w / LOCK == 1
+}
+
+pub fn distance(w: u64) -> u64
+    ensures { λ r. ⌜ r ≡ distance w ⌝ }
+{
+    w / SPAN % REACH
+}
+
+pub fn write_time(w: u64) -> u64
+    ensures { λ r. ⌜ r ≡ writeTime w ⌝ }
+{
+    w % SPAN
+}
+
+pub fn read_time(w: u64) -> u64
+    ensures { λ r. ⌜ r ≡ readTime w ⌝ }
+{
+    write_time(w) + distance(w)
+}
+
+pub fn read_apart(w: u64) -> Parts
+    ensures { λ r. ⌜ r ≡ partsOf w ⌝ }
+{
+    Parts {
+        locked: is_locked(w),
+        distance: distance(w),
+        written: write_time(w),
+        read: read_time(w),
+    }
+}
+
+pub fn pack(locked: bool, distance: u64, written: u64) -> Packed
+    ensures { λ r. ⌜ r ≡ packed locked distance written ⌝ }
+{
+    if distance >= REACH {
+        return Packed::Refused(2);
+    }
+    if written >= SPAN {
+        return Packed::Refused(2);
+    }
+    Packed::Word(join(locked, distance, written))
+}
+
+pub fn lock(w: u64) -> u64
+    ensures { λ r. ⌜ r ≡ withLock true w ⌝ }
+{
+    join(true, distance(w), write_time(w))
+}
+
+pub fn unlock(w: u64) -> u64
+    ensures { λ r. ⌜ r ≡ withLock false w ⌝ }
+{
+    join(false, distance(w), write_time(w))
+}
+
+// The unlocked word with both times t.
+pub fn fresh(t: u64) -> Packed
+    ensures { λ r. ⌜ r ≡ freshAt t ⌝ }
+{
+    if t >= SPAN {
+        return Packed::Refused(2);
+    }
+    Packed::Word(join(false, 0, t))
+}
+
+// T has a test of its own: with write time T and t = T + 1 the parts would still fit.
+pub fn extend(w: u64, t: u64) -> Packed
+    ensures { λ r. ⌜ r ≡ extendedTo w t ⌝ }
+{
+    let written = write_time(w);
+    if t < written {
+        return Packed::Refused(2);
+    }
+    if SPAN <= t {
+        return Packed::Refused(2);
+    }
+    let d = t - written;
+    Packed::Word(join(is_locked(w), d % REACH, written + d / REACH * REACH))
+}

@@ -1,0 +1,5 @@
+-- What the crates above share: facts about the rules that more than one proof rests on. Nothing here is to be believed: all of it is proved.
+pub mod Search
+pub mod Fine
+pub mod Sums
+pub mod FreeSeat

@@ -1,0 +1,31 @@
+-- The three lent tables, and what a call comes to: an answer and the tables after it.
+use Prim.Native.Nat.{ℕ}
+use mathlib.Core.List.{List}
+use mathlib.Core.Bool.{Bool, cond}
+use lib.Dec.{eqb}
+use Rattle.rules.specs.declared.Answer.{Answer}
+use Rattle.rules.specs.declared.Answer.the-variants.{Refused}
+
+pub record Tables : Type 0 where
+  pub values : List ℕ
+  pub words : List ℕ
+  pub seats : List ℕ
+
+pub record Outcome : Type 0 where
+  pub answer : Answer
+  pub tables : Tables
+
+abbrev pub tables : List ℕ → List ℕ → List ℕ → Tables
+tables values words seats = record { values = values; words = words; seats = seats }
+
+-- an answer, with the tables as they are after it
+abbrev pub after : Answer → List ℕ → List ℕ → List ℕ → Outcome
+after a values words seats = record { answer = a; tables = tables values words seats }
+
+-- an answer that leaves every table as it was
+abbrev pub keep : Tables → Answer → Outcome
+keep t a = record { answer = a; tables = t }
+
+-- refused where the number is not 0, and then every table stays; otherwise the outcome
+abbrev pub unless : ℕ → Tables → Outcome → Outcome
+unless why t o = cond (eqb why 0) o (keep t (Refused why))
