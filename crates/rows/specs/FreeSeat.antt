@@ -12,17 +12,10 @@ use Rattle.rules.specs.Tests.{sumTo, count, any, first}
 use Rattle.rules.specs.Layout.{owners, seatCount, row, phase, owner, share}
 use Rattle.rules.specs.Tables.{Tables}
 use Rattle.rules.specs.Plan.{badRow, holds, held, claim, claims, unsound, crowded, openRefusal, isFree, freeSeat}
+use Rattle.rules.specs.Limits.{held-claim, share-claim}
 use Rattle.rows.specs.Search.{none-at}
 use Rattle.rows.specs.Fine.{none-of, first-none}
 use Rattle.rows.specs.Sums.{sum-add, sum-has, sum-mono, sum-less}
-
-pub held-claim : (seats : List ℕ) (o : ℕ) → held seats o ≤ claim seats o
-unfolding claim
-held-claim seats o = omega arith
-
-pub share-claim : (seats : List ℕ) (o : ℕ) → share seats o ≤ claim seats o
-unfolding claim
-share-claim seats o = omega arith
 
 module _ (seats : List ℕ) where
   -- a row not free is counted for its owner

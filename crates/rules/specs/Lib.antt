@@ -1,4 +1,5 @@
--- Document 01 as definitions, to be read in this order; Places has the laws of reading and changing a place, Cases the worked cases P1 to P10.
+-- Document 01 as definitions, to be read in this order. After them, proved: the laws of reading and changing a place (Places),
+-- what the definitions come to at their limits (Limits), and the worked cases P1 to P10 (Cases).
 pub mod Tests
 pub mod Layout
 pub mod Answers
@@ -9,3 +10,5 @@ pub mod Work
 pub mod Advance
 pub mod Calls
 pub mod Places
+pub mod Limits
+pub mod Cases
