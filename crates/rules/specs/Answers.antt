@@ -1,8 +1,24 @@
 -- The document's word and number for every case of an answer. Promises, the tape and the observer of demand 3 use these.
 use Prim.Native.Nat.{ℕ}
-use mathlib.Core.List.{List, [], _∷_}
+use Prim.Native.String.{String}
 use Rattle.rules.specs.declared.Answer.{Answer}
 use Rattle.rules.specs.declared.Answer.the-variants.{Ready, Seat, Value, Noted, Locked, Timed, Checked, Sealed, Stored, Done, Dropped, Refused, Aborted}
+
+-- the document's word
+abbrev pub word : Answer → String
+word (Ready n) = "ready"
+word (Seat n) = "seat"
+word (Value n) = "value"
+word (Noted n) = "noted"
+word (Locked n) = "locked"
+word (Timed n) = "timed"
+word (Checked n) = "checked"
+word (Sealed n) = "sealed"
+word (Stored n) = "stored"
+word (Done n) = "done"
+word (Dropped n) = "dropped"
+word (Refused n) = "refused"
+word (Aborted n) = "aborted"
 
 -- the words, numbered
 abbrev pub ready : ℕ
@@ -44,7 +60,7 @@ refused = 11
 abbrev pub aborted : ℕ
 aborted = 12
 
--- the word of an answer, and its number
+-- the number of an answer's word, and the number that it carries
 abbrev pub kind : Answer → ℕ
 kind (Ready n) = ready
 kind (Seat n) = seat

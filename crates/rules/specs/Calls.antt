@@ -28,11 +28,6 @@ unfoldable pub run : Tables → List Call → Tables
 run t [] = t
 run t (c ∷ cs) = run (step t c .tables) cs
 
--- the answers to a list of calls, in order
-unfoldable pub answers : Tables → List Call → List Answer
-answers t [] = []
-answers t (c ∷ cs) = step t c .answer ∷ answers (step t c .tables) cs
-
 -- each call with its answer: what one who sees no table sees
 pub record Event : Type 0 where
   pub call : Call
@@ -41,3 +36,11 @@ pub record Event : Type 0 where
 unfoldable pub history : Tables → List Call → List Event
 history t [] = []
 history t (c ∷ cs) = record { call = c; answer = step t c .answer } ∷ history (step t c .tables) cs
+
+-- the answers alone, in order
+unfoldable pub told : List Event → List Answer
+told [] = []
+told (e ∷ es) = e .answer ∷ told es
+
+abbrev pub answers : Tables → List Call → List Answer
+answers t cs = told (history t cs)

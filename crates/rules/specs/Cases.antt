@@ -1,18 +1,19 @@
 -- P1 to P10 of document 01 as one table under one theorem, `table`, over real tables of 5536 numbers; Tape X with its fourteen answers beside it.
 use Prim.Native.Nat.{ℕ}
-use mathlib.Core.Path.{_≡_, refl}
+use mathlib.Core.Path.{_≡_, ap}
 use mathlib.Core.List.{List, [], _∷_, _++_}
 use lib.ListN.{replicate}
 use Rattle.clock.specs.Word.{reach, span, top, lockBit, isLocked, distance, writeTime, readTime, word, withLock, fresh, extended}
 use Rattle.clock.specs.Cases.{wordCases, wordDue, word-cases}
-use Rattle.rules.specs.Tests.{scan, count, sumTo, oneOf, firstOf}
+use Rattle.rules.specs.Tests.{scan, sumTo, oneOf, firstOf}
 use Rattle.rules.specs.Layout.{seatsLength, row, put, reads}
 use Rattle.rules.specs.Tables.{Tables, tables}
 use Rattle.rules.specs.Refusals.{unsized, misnamed, misplaced, late, badRead, badWrite, damaged, foreign, refusal}
-use Rattle.rules.specs.Plan.{badShare, badPlan, setupRefusal, laid, setup, holds, held, claim, claims, badRow, overLimit, unsound, crowded, openRefusal, isFree, freeSeat, cleared, opened, openSeat}
+use Rattle.rules.specs.Plan.{badShare, badPlan, setupRefusal, laid, setup, badRow, isFree, freeSeat, cleared, opened}
 use Rattle.rules.specs.Work.{readNames, writeNames, readOf, writeOf, readNoted, firstRead, readIn, read, above, placeOf, slid, placed, writeIn, write}
 use Rattle.rules.specs.Advance.{heldLocks, released, letGo, moved, lockStep, seenTime, dueTime, commitTime, timeStep, verdict, judged, stretched, passed, ruled, checkStep, sealStep, effect, storeStep, doneStep, lockPhase, checkPhase, storePhase, advanceIn, advance, abandon}
-use Rattle.rules.specs.Calls.{Call, Setup, Open, Read, Write, Advance, step, run, answers}
+use Rattle.rules.specs.Calls.{Call, Setup, Open, Read, Write, Advance, run, told, answers}
+use Rattle.rules.specs.Quick.{counted, quickHeld, refusalBy, quickOpen, quickStep, quickRun, quick-run, quickHistory, quick-history}
 use Rattle.rules.specs.declared.Answer.{Answer}
 use Rattle.rules.specs.declared.Answer.the-variants.{Ready, Seat, Value, Noted, Locked, Timed, Checked, Sealed, Stored, Done, Aborted}
 
@@ -26,7 +27,7 @@ plan = 1 ∷ 1 ∷ (replicate 14 0 ++ (2 ∷ 2 ∷ replicate 14 0))
 
 -- what a worked case computes with: `unfolding computed` opens all of it
 unfoldable pub computed : Unit {0}
-unfolding blank plan scan count sumTo oneOf firstOf row put unsized misnamed misplaced late badRead badWrite damaged foreign refusal badShare badPlan setupRefusal laid setup holds held claim claims badRow overLimit unsound crowded openRefusal isFree freeSeat cleared opened openSeat readNames writeNames readOf writeOf readNoted firstRead readIn read above placeOf slid placed writeIn write heldLocks released letGo moved lockStep seenTime dueTime commitTime timeStep verdict judged stretched passed ruled checkStep sealStep effect storeStep doneStep lockPhase checkPhase storePhase advanceIn advance abandon step run answers reach span top lockBit isLocked distance writeTime readTime word withLock fresh extended
+unfolding blank plan scan sumTo oneOf firstOf row put unsized misnamed misplaced late badRead badWrite damaged foreign refusal badShare badPlan setupRefusal laid setup badRow isFree freeSeat cleared opened readNames writeNames readOf writeOf readNoted firstRead readIn read above placeOf slid placed writeIn write heldLocks released letGo moved lockStep seenTime dueTime commitTime timeStep verdict judged stretched passed ruled checkStep sealStep effect storeStep doneStep lockPhase checkPhase storePhase advanceIn advance abandon told quickHeld counted refusalBy quickOpen quickStep quickRun quickHistory reach span top lockBit isLocked distance writeTime readTime word withLock fresh extended
 computed = tt
 
 -- a case: a start, the calls after Setup, and the answers after Ready
@@ -129,31 +130,31 @@ OwnLock =
 
 plays-P5 : Plays P5
 unfolding computed
-plays-P5 = refl
+plays-P5 = ap told (quick-history blank (tape P5))
 
 plays-P6 : Plays P6
 unfolding computed
-plays-P6 = refl
+plays-P6 = ap told (quick-history blank (tape P6))
 
 plays-P7 : Plays P7
 unfolding computed
-plays-P7 = refl
+plays-P7 = ap told (quick-history blank (tape P7))
 
 plays-P8 : Plays P8
 unfolding computed
-plays-P8 = refl
+plays-P8 = ap told (quick-history blank (tape P8))
 
 plays-P9 : Plays P9
 unfolding computed
-plays-P9 = refl
+plays-P9 = ap told (quick-history blank (tape P9))
 
 plays-P10 : Plays P10
 unfolding computed
-plays-P10 = refl
+plays-P10 = ap told (quick-history blank (tape P10))
 
 no-read-entry : NoReadEntry P10
 unfolding computed
-no-read-entry = refl
+no-read-entry = ap (λ (t : Tables). reads (row (t .seats) 0)) (quick-run blank (tape P10))
 
 -- THE TABLE
 pub table :
@@ -162,8 +163,8 @@ table = (word-cases, plays-P5, plays-P6, plays-P7, plays-P8, plays-P9, (plays-P1
 
 pub tape-x : Plays TapeX
 unfolding computed
-tape-x = refl
+tape-x = ap told (quick-history blank (tape TapeX))
 
 pub own-lock : Plays OwnLock
 unfolding computed
-own-lock = refl
+own-lock = ap told (quick-history blank (tape OwnLock))
