@@ -1,0 +1,57 @@
+//! Turns a text tape into a tape (`tape encode [FILE]`) and back (`tape decode [FILE]`).
+
+use std::env;
+use std::fs;
+use std::io::{self, Read, Write};
+use std::process::ExitCode;
+
+use second::text;
+
+const USAGE: &str = "usage: tape encode [FILE] | tape decode [FILE]";
+
+fn main() -> ExitCode {
+    let arguments: Vec<String> = env::args().skip(1).collect();
+    let arguments: Vec<&str> = arguments.iter().map(String::as_str).collect();
+    match run(&arguments) {
+        Ok(()) => ExitCode::SUCCESS,
+        Err(message) => {
+            eprintln!("tape: {message}");
+            ExitCode::FAILURE
+        }
+    }
+}
+
+fn run(arguments: &[&str]) -> Result<(), String> {
+    let (command, file) = match *arguments {
+        [command] => (command, None),
+        [command, file] => (command, Some(file)),
+        _ => return Err(USAGE.into()),
+    };
+    let output = match command {
+        "encode" => encode(input(file)?)?,
+        "decode" => decode(input(file)?)?,
+        _ => return Err(USAGE.into()),
+    };
+    let written = io::stdout().write_all(&output).and_then(|()| io::stdout().flush());
+    written.map_err(|error| format!("standard output: {error}"))
+}
+
+fn input(file: Option<&str>) -> Result<Vec<u8>, String> {
+    if let Some(file) = file {
+        return fs::read(file).map_err(|error| format!("{file}: {error}"));
+    }
+    let mut bytes = Vec::new();
+    let read = io::stdin().read_to_end(&mut bytes);
+    read.map_err(|error| format!("standard input: {error}"))?;
+    Ok(bytes)
+}
+
+fn encode(text: Vec<u8>) -> Result<Vec<u8>, String> {
+    let text = String::from_utf8(text).map_err(|error| format!("not a text tape: {error}"))?;
+    text::to_tape(&text).map_err(|error| error.to_string())
+}
+
+fn decode(tape: Vec<u8>) -> Result<Vec<u8>, String> {
+    let text = text::from_tape(&tape).map_err(|stop| stop.to_string())?;
+    Ok(text.into_bytes())
+}

@@ -1,0 +1,100 @@
+//! The three lent tables as flat numbers: loaded into a monitor and unloaded bit for bit.
+
+use std::array;
+
+use crate::clock::Widths;
+use crate::monitor::{Lent, Monitor, count_fits};
+use crate::plan::{OWNERS, Plan, SEATS};
+use crate::row::{READS, ReadEntry, Row, WRITES, WriteEntry};
+use crate::tables::{Record, Tables};
+
+const HEAD: usize = 6;
+const READ_ENTRY: usize = 4;
+const WRITE_ENTRY: usize = 2;
+/// The length of a row, and of the whole seat table.
+pub const ROW: usize = HEAD + READS * READ_ENTRY + WRITES * WRITE_ENTRY;
+pub const SEAT_TABLE: usize = 2 * OWNERS + SEATS * ROW;
+
+#[derive(Clone, Debug, Default, PartialEq, Eq)]
+pub struct Flat {
+    pub values: Vec<u64>,
+    pub words: Vec<u64>,
+    pub seats: Vec<u64>,
+}
+
+/// The monitor that these tables are lent to, with words of the real widths. Tables of wrong
+/// lengths are kept as they are, for a monitor that refuses every call.
+pub fn load(values: &[u64], words: &[u64], seats: &[u64]) -> Monitor {
+    let records_fit = count_fits(values.len()) && values.len() == words.len();
+    if !records_fit || seats.len() != SEAT_TABLE {
+        let (values, words, seats) = (values.to_vec(), words.to_vec(), seats.to_vec());
+        return Monitor { lent: Lent::Unfit(Flat { values, words, seats }) };
+    }
+    let widths = Widths::REAL;
+    let record = |(&value, &word): (&u64, &u64)| Record { value, word: widths.unpack(word) };
+    let records = values.iter().zip(words).map(record).collect();
+    let (plan, rows) = seats.split_at(2 * OWNERS);
+    Monitor::of(Tables { widths, records, plan: load_plan(plan), rows: load_rows(rows) })
+}
+
+pub fn unload(monitor: &Monitor) -> Flat {
+    let tables = match &monitor.lent {
+        Lent::Fit(tables) => tables,
+        Lent::Unfit(flat) => return flat.clone(),
+    };
+    let words = tables.records.iter().map(|record| tables.widths.pack(record.word));
+    let mut seats = Vec::with_capacity(SEAT_TABLE);
+    seats.extend(tables.plan.shares);
+    seats.extend(tables.plan.limits);
+    tables.rows.iter().for_each(|row| unload_row(row, &mut seats));
+    Flat { values: monitor.values(), words: words.collect(), seats }
+}
+
+fn load_plan(numbers: &[u64]) -> Plan {
+    Plan {
+        shares: array::from_fn(|owner| numbers[owner]),
+        limits: array::from_fn(|owner| numbers[OWNERS + owner]),
+    }
+}
+
+fn load_rows(numbers: &[u64]) -> Box<[Row; SEATS]> {
+    Box::new(array::from_fn(|seat| load_row(&numbers[seat * ROW..][..ROW])))
+}
+
+fn load_row(numbers: &[u64]) -> Row {
+    let (head, entries) = numbers.split_at(HEAD);
+    let (reads, writes) = entries.split_at(READS * READ_ENTRY);
+    Row {
+        phase: head[0],
+        owner: head[1],
+        position: head[2],
+        reads: head[3],
+        writes: head[4],
+        time: head[5],
+        read_entries: array::from_fn(|place| load_read(&reads[place * READ_ENTRY..])),
+        write_entries: array::from_fn(|place| load_write(&writes[place * WRITE_ENTRY..])),
+    }
+}
+
+fn load_read(numbers: &[u64]) -> ReadEntry {
+    ReadEntry {
+        record: numbers[0],
+        value: numbers[1],
+        write_time: numbers[2],
+        read_time: numbers[3],
+    }
+}
+
+fn load_write(numbers: &[u64]) -> WriteEntry {
+    WriteEntry { record: numbers[0], value: numbers[1] }
+}
+
+fn unload_row(row: &Row, seats: &mut Vec<u64>) {
+    seats.extend([row.phase, row.owner, row.position, row.reads, row.writes, row.time]);
+    for entry in &row.read_entries {
+        seats.extend([entry.record, entry.value, entry.write_time, entry.read_time]);
+    }
+    for entry in &row.write_entries {
+        seats.extend([entry.record, entry.value]);
+    }
+}

@@ -1,0 +1,22 @@
+//! The independent second program: the monitor, its tape and its text tape, written from the
+//! scope document alone, and a judge of the histories that the monitor tells.
+//!
+//! The state is kept in structures and not in the flat tables; `flat` turns the one into the
+//! other, so that each call can be compared with an engine that works on lent tables.
+
+mod advance;
+pub mod answer;
+pub mod call;
+pub mod clock;
+pub mod crowd;
+pub mod flat;
+pub mod history;
+pub mod monitor;
+pub mod odd;
+pub mod plan;
+pub mod program;
+pub mod random;
+pub mod row;
+pub mod tables;
+pub mod tape;
+pub mod text;

@@ -1,0 +1,63 @@
+//! The two programs from outside: their streams, their messages and their exit statuses.
+
+use std::io::Write;
+use std::process::{Command, Output, Stdio};
+
+const SECOND: &str = env!("CARGO_BIN_EXE_second");
+const TAPE: &str = env!("CARGO_BIN_EXE_tape");
+
+fn run(program: &str, arguments: &[&str], input: &[u8]) -> Output {
+    let mut child = Command::new(program)
+        .args(arguments)
+        .stdin(Stdio::piped())
+        .stdout(Stdio::piped())
+        .stderr(Stdio::piped())
+        .spawn()
+        .expect("the program starts");
+    let mut standard_input = child.stdin.take().expect("its input is piped");
+    standard_input.write_all(input).expect("it takes its input");
+    drop(standard_input);
+    child.wait_with_output().expect("it ends")
+}
+
+fn fails(arguments: &[&str], input: &[u8], message: &str) {
+    let output = run(TAPE, arguments, input);
+    assert_eq!(output.status.code(), Some(1));
+    assert!(output.stdout.is_empty());
+    assert_eq!(String::from_utf8_lossy(&output.stderr), format!("tape: {message}\n"));
+}
+
+#[test]
+fn text_to_tape_to_lines() {
+    let text = b"setup 1 start 0 shares 1 limits 1\nopen 0\nadvance 0 0\n";
+    let tape = run(TAPE, &["encode"], text);
+    assert!(tape.status.success());
+    assert_eq!(run(TAPE, &["decode"], &tape.stdout).stdout, text);
+    let lines = run(SECOND, &[], &tape.stdout);
+    assert!(lines.status.success());
+    assert_eq!(lines.stdout, b"1 ready 1\n2 seat 0\n3 timed 0\nend 3\n");
+}
+
+#[test]
+fn a_bad_tape_is_told_on_standard_output() {
+    let lines = run(SECOND, &[], b"\x01\x00\x02\x01\x00\x00");
+    assert!(lines.status.success());
+    assert_eq!(lines.stdout, b"1 refused 1\nstopped 32 5\n");
+}
+
+#[test]
+fn errors_are_told_on_standard_error() {
+    fails(&["encode"], b"open 0\nopen\n", "line 2: open takes one number, the owner");
+    fails(&["decode"], b"", "bad tape, fault 31 at byte 0: there is no version byte 1");
+    let usage = "usage: tape encode [FILE] | tape decode [FILE]";
+    for arguments in [&[][..], &["play"], &["encode", "a", "b"]] {
+        fails(arguments, b"", usage);
+    }
+}
+
+#[test]
+fn a_file_that_is_not_there() {
+    let output = run(TAPE, &["decode", "no-such-tape"], b"");
+    assert_eq!(output.status.code(), Some(1));
+    assert!(String::from_utf8_lossy(&output.stderr).starts_with("tape: no-such-tape: "));
+}
