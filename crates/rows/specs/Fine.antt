@@ -10,7 +10,8 @@ use lib.Dec.{eqb, ltb}
 use lib.ListN.{length, getD}
 use Rattle.clock.specs.Word.{top}
 use Rattle.rules.specs.Tests.{any, oneOf, firstOf}
-use Rattle.rules.specs.Layout.{owners, seatCount, mostRecords, mostReads, mostWrites, seatsLength, row, phase, owner, position, reads, writes, time, readItem, keptWrite, writeItem}
+use Rattle.rules.specs.Layout.{owners, seatCount, mostRecords, mostReads, mostWrites, rowWidth, seatsLength, row, phase, owner, position, reads, writes, time, readItem, keptWrite, writeItem}
+use Rattle.rules.specs.Places.{length-row}
 use Rattle.rules.specs.Tables.{Tables}
 use Rattle.rules.specs.Refusals.{unsized, misnamed, misplaced, late, badRead, badWrite, damaged, foreign, refusal}
 use Rattle.rules.specs.Advance.{heldLocks}
@@ -167,3 +168,7 @@ fine t o s item last e =
       own = eqb-true _ _ (not-false _ (mine .1 .0));
       phase-in = ltb-false _ _ (r .1 .1 .1 .1 .0);
     }
+
+-- its row is whole
+pub fine-row : {t : Tables} {o s item last : ℕ} → Fine t o s item last → length (row (t .seats) s) ≡ rowWidth
+fine-row {t} {s = s} f = length-row (t .seats) s (f .sized .rows) (f .seat-in)

@@ -3,3 +3,7 @@ pub mod Search
 pub mod Fine
 pub mod Sums
 pub mod FreeSeat
+pub mod Changed
+pub mod Becomes
+pub mod Begin
+pub mod CommitTime

@@ -1,0 +1,2 @@
+-- How an answer's word is spelled.
+pub mod Spelling

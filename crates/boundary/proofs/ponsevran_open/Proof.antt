@@ -1,0 +1,30 @@
+-- `boundary::ponsevran_open` meets its contract. Assumes nothing.
+use borrow.Author.Needs.{needs}
+use Rattle.boundary.specs.Given.{given-of}
+use Rattle.boundary.proofs.ponsevran_open.Statement.{statement}
+use Rattle.boundary.proofs.ponsevran_open.Tie as tie
+
+open-requires : tie.Need-open-requires
+open-requires c κs = search needs
+
+number-of-requires : tie.Need-number-of-requires
+number-of-requires c κs = search needs
+
+kind-of-requires : tie.Need-kind-of-requires
+kind-of-requires c κs = search needs
+
+same-length : tie.Need-same-length
+same-length c = search needs
+
+returns : tie.Need-returns
+returns c = given-of (c .before .before .before .before .open .ensures) (c .kind-of .ensures) (c .before .number-of .ensures)
+
+pub ponsevran-open-spec : {M : Type 1} → statement M
+ponsevran-open-spec =
+    tie.close
+    (tie.spec
+    open-requires
+    number-of-requires
+    kind-of-requires
+    same-length
+    returns)

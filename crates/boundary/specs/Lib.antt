@@ -1,0 +1,2 @@
+-- What a host is given of a call.
+pub mod Given

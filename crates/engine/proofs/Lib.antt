@@ -1,0 +1,6 @@
+pub mod Outcomes
+pub mod Folds
+pub mod Slides
+pub mod Entries
+pub mod Words
+pub mod Checks

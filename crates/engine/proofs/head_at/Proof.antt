@@ -1,0 +1,25 @@
+-- `engine::head_at` meets its contract. Assumes nothing.
+use mathlib.Core.Path.{_∙_, ap}
+use borrow.Author.Needs.{needs}
+use Rattle.seats.specs.Heads.{headOf}
+use Rattle.engine.proofs.head_at.Statement.{statement}
+use Rattle.engine.proofs.head_at.Tie as tie
+use Rattle.engine.proofs.head_at.Reads as reads
+use Rattle.engine.proofs.head_at.Lts as lts
+use Rattle.engine.proofs.row_of.Reads as row-of-reads
+use Rattle.seats.proofs.head_of.Reads as head-of-reads
+
+-- src/lib.rt:40:13
+row-of-requires : tie.Need-row-of-requires
+row-of-requires c κs = search needs
+
+-- src/lib.rt:40:5
+head-of-requires : tie.Need-head-of-requires
+head-of-requires c κs = search needs
+
+-- src/lib.rt:36:1
+returns : tie.Need-returns
+returns c = c .head-of .ensures ∙ ap headOf (c .before .row-of .ensures .0)
+
+pub head-at-spec : {M : Type 1} → statement M
+head-at-spec = tie.close (tie.spec row-of-requires head-of-requires returns)

@@ -1,0 +1,62 @@
+-- `engine::seen_time` meets its contract. Assumes nothing.
+use Prim.Native.Nat.{_-_, _≤_}
+use mathlib.Core.Path.{_≡_}
+use native.Mathlib.Omega.{arith}
+use borrow.Author.Needs.{needs}
+use Rattle.rules.specs.Advance.{seenTime}
+use Rattle.seats.specs.Loops.{at-end}
+use Rattle.engine.proofs.Folds.{seen-more, seen-none}
+use Rattle.engine.proofs.seen_time.Statement.{statement}
+use Rattle.engine.proofs.seen_time.Tie as tie
+use Rattle.engine.proofs.seen_time.Reads as reads
+use Rattle.engine.proofs.seen_time.Lts as lts
+use Rattle.engine.proofs.entry.Reads as entry-reads
+use Rattle.engine.proofs.greater.Reads as greater-reads
+
+abbrev Inv-loop : tie.InvT-loop
+Inv-loop row n time₀ i₀ time i = (i ≤ n) × (time ≡ seenTime row i)
+
+abbrev μ-loop : tie.MeasureT-loop
+μ-loop row n time₀ i₀ time i = n - i
+
+-- src/lib.rt:281:5
+loop-holds : tie.Need-loop-holds Inv-loop μ-loop
+loop-holds c = (omega arith, seen-none _)
+
+-- src/lib.rt:282:30
+entry-requires : tie.Need-entry-requires Inv-loop μ-loop
+entry-requires c κs = omega arith
+
+-- src/lib.rt:282:9
+greater-requires : tie.Need-greater-requires Inv-loop μ-loop
+greater-requires c κs = search needs
+
+-- src/lib.rt:283:9
+add-i : tie.Need-add-i Inv-loop μ-loop
+add-i c = omega arith
+
+-- src/lib.rt:281:5
+loop-less : tie.Need-loop-less Inv-loop μ-loop
+loop-less c = omega arith
+
+-- src/lib.rt:281:5
+loop-again : tie.Need-loop-again Inv-loop μ-loop
+loop-again c = (omega arith, seen-more _ _ (c .before .before .before .loop .inv .1) (c .before .entry .ensures) (c .greater .ensures))
+
+-- src/lib.rt:275:1
+returns : tie.Need-returns Inv-loop μ-loop
+returns c = at-end (seenTime _) _ _ (c .before .loop .inv .1) (c .before .loop .inv .0) (c .loop-test .left)
+
+pub seen-time-spec : {M : Type 1} → statement M
+seen-time-spec =
+    tie.close
+    (tie.spec
+    Inv-loop
+    μ-loop
+    loop-holds
+    entry-requires
+    greater-requires
+    add-i
+    loop-less
+    loop-again
+    returns)

@@ -1,0 +1,607 @@
+// Read, Write, Advance and Abandon.
+ghost use mathlib.Core.Path.{_≡_};
+ghost use mathlib.Core.Bool.{true, false, cond, _&&_};
+ghost use mathlib.Core.List.{List};
+ghost use Prim.Native.Nat.{ℕ, _+_, _-_, _*_, max, _<_, _≤_};
+ghost use lib.Dec.{eqb, leb};
+ghost use lib.ListN.{length, getD};
+ghost use Rattle.clock.specs.Word.{top, writeTime, fresh, extended};
+ghost use Rattle.rules.specs.Tests.{first as firstOf};
+ghost use Rattle.rules.specs.Layout.{seatCount, mostReads, mostWrites, rowWidth, seatsLength, row, put, writeWidth, readItem, keptWrite, keptRead, reads as readsOf, writes as writesOf, time as timeOf};
+ghost use Rattle.rules.specs.Tables.{Tables, tables, after};
+ghost use Rattle.rules.specs.Work.{readNoted, firstRead, readIn, read, above, slid, placed, writeIn, write};
+ghost use Rattle.rules.specs.Advance.{released, letGo, moved, lockStep, seenTime, dueTime, timeStep, ruled, passed, checkStep, sealStep, storeStep, doneStep, lockPhase, checkPhase, storePhase, advanceIn, advance, abandon};
+ghost use Rattle.rules.specs.declared.Answer.{Answer};
+ghost use Rattle.rules.specs.declared.Answer.the-variants.{Aborted};
+ghost use Rattle.engine.specs.Ready.{Seated, Ready, names, wordVerdict};
+ghost use Rattle.seats.specs.Heads.{headOf};
+use clock::Packed;
+use rules::Answer;
+use rules::Verdict;
+use seats::Head;
+use seats::at;
+use seats::free_row;
+use seats::head_of;
+use seats::layout::CHECKING;
+use seats::layout::KEPT_READ;
+use seats::layout::KEPT_WRITE;
+use seats::layout::LOCKING;
+use seats::layout::MOST_READS;
+use seats::layout::MOST_WRITES;
+use seats::layout::PHASE;
+use seats::layout::PLAN_WIDTH;
+use seats::layout::POSITION;
+use seats::layout::READ_ITEM;
+use seats::layout::READ_VALUE;
+use seats::layout::READ_WIDTH;
+use seats::layout::READS;
+use seats::layout::ROW_WIDTH;
+use seats::layout::STORING;
+use seats::layout::TIME;
+use seats::layout::WORKING;
+use seats::layout::WRITE_ITEM;
+use seats::layout::WRITE_VALUE;
+use seats::layout::WRITE_WIDTH;
+use seats::layout::WRITES;
+use seats::refusal_of;
+use seats::store;
+
+// A SEAT'S ROW
+fn row_of(seats: &[u64], seat: u64) -> &[u64]
+    requires { ⌜ Seated (now seats) seat ⌝ }
+    ensures { λ r. ⌜ (now r ≡ row (now (seats .entry)) seat) × (length (now r) ≡ rowWidth) ⌝ }
+{
+    let from = (PLAN_WIDTH + ROW_WIDTH * seat) as usize;
+    let to = from + ROW_WIDTH as usize;
+    &seats[from..to]
+}
+
+fn head_at(seats: &[u64], seat: u64) -> Head
+    requires { ⌜ Seated (now seats) seat ⌝ }
+    ensures { λ r. ⌜ r ≡ headOf (row (now (seats .entry)) seat) ⌝ }
+{
+    head_of(row_of(seats, seat))
+}
+
+// A number of a row's entry: `first` is where it stands in the first entry, `width` how far on in the next.
+fn entry(row: &[u64], first: u64, width: u64, i: u64) -> u64
+    requires { ⌜ first + width * i < length (now row) ⌝ }
+    ensures { λ r. ⌜ r ≡ getD (now (row .entry)) (first + width * i) 0 ⌝ }
+{
+    let k = (first + width * i) as usize;
+    row[k]
+}
+
+fn give(seats: &mut [u64], seat: u64, field: u64, v: u64)
+    requires { ⌜ Seated (now seats) seat × (field < rowWidth) ⌝ }
+    ensures { λ _. ⌜ now (seats .exit) ≡ put (now (seats .entry)) seat field v ⌝ }
+{
+    let k = (PLAN_WIDTH + ROW_WIDTH * seat + field) as usize;
+    seats[k] = v;
+}
+
+// The first of a row's n entries that names the record; n where none does.
+fn find(row: &[u64], first: u64, width: u64, n: u64, item: u64) -> u64
+    requires { ⌜ (length (now row) ≡ rowWidth) × (0 < width) × (first + width * n ≤ rowWidth) ⌝ }
+    ensures { λ r. ⌜ r ≡ firstOf (names (now (row .entry)) first width item) n ⌝ }
+{
+    let mut i = 0;
+    while i < n {
+        if entry(row, first, width, i) == item {
+            return i;
+        }
+        i += 1;
+    }
+    n
+}
+
+// READ
+fn note_read(seats: &mut [u64], seat: u64, n: u64, item: u64, value: u64, word: u64)
+    requires { ⌜ Seated (now seats) seat × (n ≡ readsOf (row (now seats) seat)) × (n < mostReads) ⌝ }
+    ensures { λ _. ⌜ now (seats .exit) ≡ readNoted (now (seats .entry)) seat item value word ⌝ }
+{
+    give(seats, seat, READ_ITEM + READ_WIDTH * n, item);
+    give(seats, seat, READ_VALUE + READ_WIDTH * n, value);
+    give(
+        seats,
+        seat,
+        KEPT_WRITE + READ_WIDTH * n,
+        clock::write_time(word),
+    );
+    give(
+        seats,
+        seat,
+        KEPT_READ + READ_WIDTH * n,
+        clock::read_time(word),
+    );
+    give(seats, seat, READS, n + 1);
+}
+
+fn first_read(
+    values: &[u64],
+    words: &[u64],
+    seats: &mut [u64],
+    seat: u64,
+    reads: u64,
+    item: u64,
+) -> Answer
+    requires { ⌜ Seated (now seats) seat × (reads ≡ readsOf (row (now seats) seat)) ⌝ }
+    ensures { λ r. ⌜ after r (now (values .entry)) (now (words .entry)) (now (seats .exit)) ≡ firstRead (tables (now (values .entry)) (now (words .entry)) (now (seats .entry))) seat item ⌝ }
+{
+    if MOST_READS <= reads {
+        return Answer::Refused(8);
+    }
+    let word = at(words, item);
+    if clock::is_locked(word) {
+        return Answer::Refused(10);
+    }
+    let value = at(values, item);
+    note_read(seats, seat, reads, item, value, word);
+    Answer::Value(value)
+}
+
+fn read_in(
+    values: &[u64],
+    words: &[u64],
+    seats: &mut [u64],
+    seat: u64,
+    head: Head,
+    item: u64,
+) -> Answer
+    requires { ⌜ Ready (now seats) seat (length (now words)) head ⌝ }
+    ensures { λ r. ⌜ after r (now (values .entry)) (now (words .entry)) (now (seats .exit)) ≡ readIn (tables (now (values .entry)) (now (words .entry)) (now (seats .entry))) seat item ⌝ }
+{
+    let row = row_of(seats, seat);
+    let w = find(row, WRITE_ITEM, WRITE_WIDTH, head.writes, item);
+    if w < head.writes {
+        return Answer::Value(entry(row, WRITE_VALUE, WRITE_WIDTH, w));
+    }
+    let r = find(row, READ_ITEM, READ_WIDTH, head.reads, item);
+    if r < head.reads {
+        return Answer::Value(entry(row, READ_VALUE, READ_WIDTH, r));
+    }
+    first_read(values, words, seats, seat, head.reads, item)
+}
+
+// The value of a record as the seat sees it.
+pub fn read(
+    values: &[u64],
+    words: &[u64],
+    seats: &mut [u64],
+    owner: u64,
+    seat: u64,
+    item: u64,
+) -> Answer
+    ensures { λ r. ⌜ after r (now (values .entry)) (now (words .entry)) (now (seats .exit)) ≡ read (tables (now (values .entry)) (now (words .entry)) (now (seats .entry))) owner seat item ⌝ }
+{
+    let why = refusal_of(values, words, seats, owner, seat, item, WORKING);
+    if why != 0 {
+        return Answer::Refused(why);
+    }
+    let head = head_at(seats, seat);
+    read_in(values, words, seats, seat, head, item)
+}
+
+// WRITE
+// The first of n write entries with a greater record number; n where there is none.
+fn place_of(row: &[u64], n: u64, item: u64) -> u64
+    requires { ⌜ (length (now row) ≡ rowWidth) × (n ≤ mostWrites) ⌝ }
+    ensures { λ r. ⌜ r ≡ firstOf (above (now (row .entry)) item) n ⌝ }
+{
+    let mut i = 0;
+    while i < n {
+        if item < entry(row, WRITE_ITEM, WRITE_WIDTH, i) {
+            return i;
+        }
+        i += 1;
+    }
+    n
+}
+
+// The row's numbers from place `from` to place `to` move up by one write entry, the last first.
+fn slide(seats: &mut [u64], seat: u64, from: u64, to: u64)
+    requires { ⌜ Seated (now seats) seat × (from ≤ to) × (to + writeWidth ≤ rowWidth) ⌝ }
+    ensures { λ _. ⌜ now (seats .exit) ≡ slid (now (seats .entry)) seat to writeWidth (to - from) ⌝ }
+{
+    let mut p = to;
+    while from < p {
+        p -= 1;
+        let v = at(seats, PLAN_WIDTH + ROW_WIDTH * seat + p);
+        give(seats, seat, p + WRITE_WIDTH, v);
+    }
+}
+
+fn place(seats: &mut [u64], seat: u64, n: u64, i: u64, item: u64, value: u64)
+    requires { ⌜ Seated (now seats) seat × (n ≡ writesOf (row (now seats) seat)) × (n < mostWrites) × (i ≤ n) ⌝ }
+    ensures { λ _. ⌜ now (seats .exit) ≡ placed (now (seats .entry)) seat i item value ⌝ }
+{
+    slide(
+        seats,
+        seat,
+        WRITE_ITEM + WRITE_WIDTH * i,
+        WRITE_ITEM + WRITE_WIDTH * n,
+    );
+    give(seats, seat, WRITE_ITEM + WRITE_WIDTH * i, item);
+    give(seats, seat, WRITE_VALUE + WRITE_WIDTH * i, value);
+    give(seats, seat, WRITES, n + 1);
+}
+
+fn write_in(seats: &mut [u64], seat: u64, records: u64, head: Head, item: u64, value: u64) -> Answer
+    requires { ⌜ Ready (now seats) seat records head ⌝ }
+    ensures { λ r. ⌜ ((v w : List ℕ) → after r v w (now (seats .exit)) ≡ writeIn (tables v w (now (seats .entry))) seat item value) ⌝ }
+{
+    let row = row_of(seats, seat);
+    let w = find(row, WRITE_ITEM, WRITE_WIDTH, head.writes, item);
+    if w < head.writes {
+        give(seats, seat, WRITE_VALUE + WRITE_WIDTH * w, value);
+        return Answer::Noted(item);
+    }
+    if MOST_WRITES <= head.writes {
+        return Answer::Refused(9);
+    }
+    let i = place_of(row, head.writes, item);
+    place(seats, seat, head.writes, i, item, value);
+    Answer::Noted(item)
+}
+
+// A pending write.
+pub fn write(
+    values: &[u64],
+    words: &[u64],
+    seats: &mut [u64],
+    owner: u64,
+    seat: u64,
+    item: u64,
+    value: u64,
+) -> Answer
+    ensures { λ r. ⌜ after r (now (values .entry)) (now (words .entry)) (now (seats .exit)) ≡ write (tables (now (values .entry)) (now (words .entry)) (now (seats .entry))) owner seat item value ⌝ }
+{
+    let why = refusal_of(values, words, seats, owner, seat, item, WORKING);
+    if why != 0 {
+        return Answer::Refused(why);
+    }
+    let head = head_at(seats, seat);
+    write_in(seats, seat, words.len() as u64, head, item, value)
+}
+
+// LETTING GO: what an abort and Abandon do
+// Clears the locks of a row's first n write entries.
+fn release(words: &mut [u64], row: &[u64], n: u64)
+    requires { ⌜ (length (now row) ≡ rowWidth) × (n ≤ mostWrites) ⌝ }
+    ensures { λ _. ⌜ now (words .exit) ≡ released (now (words .entry)) (now (row .entry)) n ⌝ }
+{
+    let mut i = 0;
+    while i < n {
+        let item = entry(row, WRITE_ITEM, WRITE_WIDTH, i);
+        let word = at(words, item);
+        store(words, item, clock::unlock(word));
+        i += 1;
+    }
+}
+
+fn held_locks(head: Head) -> u64
+    ensures { λ r. ⌜ r ≡ cond (eqb (head .phase) 3) (head .writes) (head .position) ⌝ }
+{
+    if head.phase == CHECKING {
+        return head.writes;
+    }
+    head.position
+}
+
+fn let_go(words: &mut [u64], seats: &mut [u64], seat: u64, head: Head)
+    requires { ⌜ Ready (now seats) seat (length (now words)) head × (head .phase ≤ 3) ⌝ }
+    ensures { λ _. ⌜ ((v : List ℕ) (a : Answer) → after a v (now (words .exit)) (now (seats .exit)) ≡ letGo (tables v (now (words .entry)) (now (seats .entry))) seat a) ⌝ }
+{
+    let held = held_locks(head);
+    release(words, row_of(seats, seat), held);
+    free_row(seats, seat);
+}
+
+fn abort(words: &mut [u64], seats: &mut [u64], seat: u64, head: Head, why: u64) -> Answer
+    requires { ⌜ Ready (now seats) seat (length (now words)) head × (head .phase ≤ 3) ⌝ }
+    ensures { λ r. ⌜ ((v : List ℕ) → after r v (now (words .exit)) (now (seats .exit)) ≡ letGo (tables v (now (words .entry)) (now (seats .entry))) seat (Aborted why)) ⌝ }
+{
+    let_go(words, seats, seat, head);
+    Answer::Aborted(why)
+}
+
+// LOCKING
+fn move_to(seats: &mut [u64], seat: u64, phase: u64, position: u64)
+    requires { ⌜ Seated (now seats) seat ⌝ }
+    ensures { λ _. ⌜ now (seats .exit) ≡ moved (now (seats .entry)) seat phase position ⌝ }
+{
+    give(seats, seat, PHASE, phase);
+    give(seats, seat, POSITION, position);
+}
+
+fn lock_step(words: &mut [u64], seats: &mut [u64], seat: u64, head: Head) -> Answer
+    requires { ⌜ Ready (now seats) seat (length (now words)) head × (head .phase ≤ 2) × (head .position < head .writes) ⌝ }
+    ensures { λ r. ⌜ ((v : List ℕ) → after r v (now (words .exit)) (now (seats .exit)) ≡ lockStep (tables v (now (words .entry)) (now (seats .entry))) seat) ⌝ }
+{
+    let item = entry(row_of(seats, seat), WRITE_ITEM, WRITE_WIDTH, head.position);
+    let word = at(words, item);
+    if clock::is_locked(word) {
+        return abort(words, seats, seat, head, 21);
+    }
+    store(words, item, clock::lock(word));
+    move_to(seats, seat, LOCKING, head.position + 1);
+    Answer::Locked(item)
+}
+
+fn greater(a: u64, b: u64) -> u64
+    ensures { λ r. ⌜ r ≡ max a b ⌝ }
+{
+    if a < b { b } else { a }
+}
+
+// The greatest of 0 and the kept write times of a row's first n read entries.
+fn seen_time(row: &[u64], n: u64) -> u64
+    requires { ⌜ (length (now row) ≡ rowWidth) × (n ≤ mostReads) ⌝ }
+    ensures { λ r. ⌜ r ≡ seenTime (now (row .entry)) n ⌝ }
+{
+    let mut time = 0;
+    let mut i = 0;
+    while i < n {
+        time = greater(time, entry(row, KEPT_WRITE, READ_WIDTH, i));
+        i += 1;
+    }
+    time
+}
+
+// The greatest of `from` and one more than the present read time of each of the first n records to be written.
+fn due_time(words: &[u64], row: &[u64], from: u64, n: u64) -> u64
+    requires { ⌜ (length (now row) ≡ rowWidth) × (n ≤ mostWrites) ⌝ }
+    ensures { λ r. ⌜ r ≡ dueTime (now (words .entry)) (now (row .entry)) from n ⌝ }
+{
+    let mut time = from;
+    let mut i = 0;
+    while i < n {
+        let word = at(words, entry(row, WRITE_ITEM, WRITE_WIDTH, i));
+        time = greater(time, clock::read_time(word) + 1);
+        i += 1;
+    }
+    time
+}
+
+fn time_step(words: &mut [u64], seats: &mut [u64], seat: u64, head: Head) -> Answer
+    requires { ⌜ Ready (now seats) seat (length (now words)) head × (head .phase ≤ 2) ⌝ }
+    ensures { λ r. ⌜ ((v : List ℕ) → after r v (now (words .exit)) (now (seats .exit)) ≡ timeStep (tables v (now (words .entry)) (now (seats .entry))) seat) ⌝ }
+{
+    let row = row_of(seats, seat);
+    let time = due_time(words, row, seen_time(row, head.reads), head.writes);
+    if clock::top() < time {
+        return abort(words, seats, seat, head, 24);
+    }
+    move_to(seats, seat, CHECKING, 0);
+    give(seats, seat, TIME, time);
+    Answer::Timed(time)
+}
+
+// CHECKING
+fn judge(wrote: u64, time: u64, word: u64, own: bool) -> Verdict
+    ensures { λ r. ⌜ r ≡ wordVerdict wrote time word own ⌝ }
+{
+    if clock::write_time(word) != wrote {
+        return Verdict::Fails(22);
+    }
+    if own {
+        return Verdict::Passes;
+    }
+    let read = clock::read_time(word);
+    if is_blocked(clock::is_locked(word), read, time) {
+        return Verdict::Fails(23);
+    }
+    if read < time {
+        return Verdict::Extends;
+    }
+    Verdict::Passes
+}
+
+fn is_blocked(locked: bool, read: u64, time: u64) -> bool
+    ensures { λ r. ⌜ r ≡ (locked && leb read time) ⌝ }
+{
+    locked && read <= time
+}
+
+fn extended_word(word: u64, time: u64) -> u64
+    requires { ⌜ (writeTime word ≤ time) × (time ≤ top) ⌝ }
+    ensures { λ r. ⌜ r ≡ extended word time ⌝ }
+{
+    let Packed::Word(w) = clock::extend(word, time) else {
+        return 0;
+    };
+    w
+}
+
+fn pass(seats: &mut [u64], seat: u64, position: u64, item: u64) -> Answer
+    requires { ⌜ Seated (now seats) seat × (position ≤ mostReads) ⌝ }
+    ensures { λ r. ⌜ (r ≡ Answer.Checked item) × (now (seats .exit) ≡ put (now (seats .entry)) seat 2 (position + 1)) ⌝ }
+{
+    give(seats, seat, POSITION, position + 1);
+    Answer::Checked(item)
+}
+
+fn check_word(
+    words: &mut [u64],
+    seats: &mut [u64],
+    seat: u64,
+    head: Head,
+    item: u64,
+    wrote: u64,
+) -> Answer
+    requires { ⌜ Ready (now seats) seat (length (now words)) head × (head .phase ≡ 3) × (head .position < head .reads) × (item ≡ readItem (row (now seats) seat) (head .position)) × (wrote ≡ keptWrite (row (now seats) seat) (head .position)) × (keptRead (row (now seats) seat) (head .position) < head .time) ⌝ }
+    ensures { λ r. ⌜ ((v : List ℕ) → after r v (now (words .exit)) (now (seats .exit)) ≡ checkStep (tables v (now (words .entry)) (now (seats .entry))) seat) ⌝ }
+{
+    let word = at(words, item);
+    let own = find(
+        row_of(seats, seat),
+        WRITE_ITEM,
+        WRITE_WIDTH,
+        head.writes,
+        item,
+    )
+        < head.writes;
+    let found = judge(wrote, head.time, word, own);
+    match found {
+        Verdict::Passes => pass(seats, seat, head.position, item),
+        Verdict::Extends => {
+            store(words, item, extended_word(word, head.time));
+            pass(seats, seat, head.position, item)
+        }
+        Verdict::Fails(why) => abort(words, seats, seat, head, why),
+    }
+}
+
+fn check_step(words: &mut [u64], seats: &mut [u64], seat: u64, head: Head) -> Answer
+    requires { ⌜ Ready (now seats) seat (length (now words)) head × (head .phase ≡ 3) × (head .position < head .reads) ⌝ }
+    ensures { λ r. ⌜ ((v : List ℕ) → after r v (now (words .exit)) (now (seats .exit)) ≡ checkStep (tables v (now (words .entry)) (now (seats .entry))) seat) ⌝ }
+{
+    let row = row_of(seats, seat);
+    let item = entry(row, READ_ITEM, READ_WIDTH, head.position);
+    let wrote = entry(row, KEPT_WRITE, READ_WIDTH, head.position);
+    if head.time <= entry(row, KEPT_READ, READ_WIDTH, head.position) {
+        return pass(seats, seat, head.position, item);
+    }
+    check_word(words, seats, seat, head, item, wrote)
+}
+
+fn seal_step(seats: &mut [u64], seat: u64, time: u64) -> Answer
+    requires { ⌜ Seated (now seats) seat × (time ≡ timeOf (row (now seats) seat)) ⌝ }
+    ensures { λ r. ⌜ ((v w : List ℕ) → after r v w (now (seats .exit)) ≡ sealStep (tables v w (now (seats .entry))) seat) ⌝ }
+{
+    move_to(seats, seat, STORING, 0);
+    Answer::Sealed(time)
+}
+
+// STORING
+fn fresh_word(time: u64) -> u64
+    requires { ⌜ time ≤ top ⌝ }
+    ensures { λ r. ⌜ r ≡ fresh time ⌝ }
+{
+    let Packed::Word(w) = clock::fresh(time) else {
+        return 0;
+    };
+    w
+}
+
+fn store_step(
+    values: &mut [u64],
+    words: &mut [u64],
+    seats: &mut [u64],
+    seat: u64,
+    head: Head,
+) -> Answer
+    requires { ⌜ Ready (now seats) seat (length (now words)) head × (head .phase ≡ 4) × (head .position < head .writes) ⌝ }
+    ensures { λ r. ⌜ after r (now (values .exit)) (now (words .exit)) (now (seats .exit)) ≡ storeStep (tables (now (values .entry)) (now (words .entry)) (now (seats .entry))) seat ⌝ }
+{
+    let row = row_of(seats, seat);
+    let item = entry(row, WRITE_ITEM, WRITE_WIDTH, head.position);
+    let value = entry(row, WRITE_VALUE, WRITE_WIDTH, head.position);
+    store(values, item, value);
+    store(words, item, fresh_word(head.time));
+    give(seats, seat, POSITION, head.position + 1);
+    Answer::Stored(item)
+}
+
+fn done_step(seats: &mut [u64], seat: u64, time: u64) -> Answer
+    requires { ⌜ Seated (now seats) seat × (time ≡ timeOf (row (now seats) seat)) ⌝ }
+    ensures { λ r. ⌜ ((v w : List ℕ) → after r v w (now (seats .exit)) ≡ doneStep (tables v w (now (seats .entry))) seat) ⌝ }
+{
+    free_row(seats, seat);
+    Answer::Done(time)
+}
+
+// ADVANCE
+fn lock_phase(words: &mut [u64], seats: &mut [u64], seat: u64, head: Head) -> Answer
+    requires { ⌜ Ready (now seats) seat (length (now words)) head × (head .phase ≤ 2) ⌝ }
+    ensures { λ r. ⌜ ((v : List ℕ) → after r v (now (words .exit)) (now (seats .exit)) ≡ lockPhase (tables v (now (words .entry)) (now (seats .entry))) seat) ⌝ }
+{
+    let held = head.position;
+    if held < head.writes {
+        return lock_step(words, seats, seat, head);
+    }
+    time_step(words, seats, seat, head)
+}
+
+fn check_phase(words: &mut [u64], seats: &mut [u64], seat: u64, head: Head) -> Answer
+    requires { ⌜ Ready (now seats) seat (length (now words)) head × (head .phase ≡ 3) ⌝ }
+    ensures { λ r. ⌜ ((v : List ℕ) → after r v (now (words .exit)) (now (seats .exit)) ≡ checkPhase (tables v (now (words .entry)) (now (seats .entry))) seat) ⌝ }
+{
+    if head.position < head.reads {
+        return check_step(words, seats, seat, head);
+    }
+    seal_step(seats, seat, head.time)
+}
+
+fn store_phase(
+    values: &mut [u64],
+    words: &mut [u64],
+    seats: &mut [u64],
+    seat: u64,
+    head: Head,
+) -> Answer
+    requires { ⌜ Ready (now seats) seat (length (now words)) head × (head .phase ≡ 4) ⌝ }
+    ensures { λ r. ⌜ after r (now (values .exit)) (now (words .exit)) (now (seats .exit)) ≡ storePhase (tables (now (values .entry)) (now (words .entry)) (now (seats .entry))) seat ⌝ }
+{
+    if head.position < head.writes {
+        return store_step(values, words, seats, seat, head);
+    }
+    done_step(seats, seat, head.time)
+}
+
+fn advance_in(
+    values: &mut [u64],
+    words: &mut [u64],
+    seats: &mut [u64],
+    seat: u64,
+    head: Head,
+) -> Answer
+    requires { ⌜ Ready (now seats) seat (length (now words)) head ⌝ }
+    ensures { λ r. ⌜ after r (now (values .exit)) (now (words .exit)) (now (seats .exit)) ≡ advanceIn (tables (now (values .entry)) (now (words .entry)) (now (seats .entry))) seat ⌝ }
+{
+    let phase = head.phase;
+    match phase {
+        1 => lock_phase(words, seats, seat, head),
+        2 => lock_phase(words, seats, seat, head),
+        3 => check_phase(words, seats, seat, head),
+        4 => store_phase(values, words, seats, seat, head),
+        0 | 5..=18446744073709551615 => Answer::Refused(3),
+    }
+}
+
+// One step of a commit.
+pub fn advance(
+    values: &mut [u64],
+    words: &mut [u64],
+    seats: &mut [u64],
+    owner: u64,
+    seat: u64,
+) -> Answer
+    ensures { λ r. ⌜ after r (now (values .exit)) (now (words .exit)) (now (seats .exit)) ≡ advance (tables (now (values .entry)) (now (words .entry)) (now (seats .entry))) owner seat ⌝ }
+{
+    let why = refusal_of(values, words, seats, owner, seat, 0, STORING);
+    if why != 0 {
+        return Answer::Refused(why);
+    }
+    let head = head_at(seats, seat);
+    advance_in(values, words, seats, seat, head)
+}
+
+// ABANDON: releases the held locks and frees the row.
+pub fn abandon(
+    values: &[u64],
+    words: &mut [u64],
+    seats: &mut [u64],
+    owner: u64,
+    seat: u64,
+) -> Answer
+    ensures { λ r. ⌜ after r (now (values .entry)) (now (words .exit)) (now (seats .exit)) ≡ abandon (tables (now (values .entry)) (now (words .entry)) (now (seats .entry))) owner seat ⌝ }
+{
+    let why = refusal_of(values, words, seats, owner, seat, 0, CHECKING);
+    if why != 0 {
+        return Answer::Refused(why);
+    }
+    let head = head_at(seats, seat);
+    let_go(words, seats, seat, head);
+    Answer::Dropped(seat)
+}

@@ -1,0 +1,121 @@
+// Runs the tape on standard input, of any length, and prints its lines. The buffers are fixed, so memory does not grow with the tape.
+ghost use mathlib.Core.Path.{_≡_};
+ghost use Prim.Native.Nat.{_≤_};
+ghost use lib.ListN.{length};
+use libc::STDIN_FILENO;
+use libc::STDOUT_FILENO;
+use tape::Flow;
+use tape::Tally;
+
+// Writes the first `end` bytes of out.
+fn put(out: &[u8], end: usize) {
+    if end <= out.len() {
+        io::write_all(STDOUT_FILENO, &out[..end]);
+    }
+}
+
+// Reads once behind the bytes that wait, and answers where the bytes then end.
+fn fill(buf: &mut [u8], waiting: usize) -> usize
+    requires { ⌜ waiting ≤ length (now buf) ⌝ }
+    ensures { λ r. ⌜ (waiting ≤ r) × (r ≤ length (now (buf .entry))) ⌝ }
+{
+    let got = libc::read(STDIN_FILENO, &mut buf[waiting..]);
+    let n = io::count(got, buf);
+    if n <= buf.len() - waiting {
+        return waiting + n;
+    }
+    waiting
+}
+
+// Reads once, takes every whole call and writes their lines. At the end of the input it writes the last line and stops.
+fn pump(
+    f: Flow,
+    buf: &mut [u8],
+    values: &mut [u64],
+    words: &mut [u64],
+    seats: &mut [u64],
+    out: &mut [u8],
+) -> Flow
+    requires { ⌜ f .waiting ≤ length (now buf) ⌝ }
+    ensures { λ r. ⌜ r .waiting ≤ length (now (buf .entry)) ⌝ }
+{
+    let waiting = f.waiting;
+    let to = fill(buf, waiting);
+    if to == waiting {
+        let end = tape::finish(out, 0, waiting == 0, f.calls, f.offset);
+        put(out, end);
+        return Flow {
+            waiting,
+            calls: f.calls,
+            offset: f.offset,
+            records: f.records,
+            end: 0,
+            stopped: true,
+        };
+    }
+    let k = Tally {
+        calls: f.calls,
+        offset: f.offset,
+        records: f.records,
+    };
+    let next = tape::absorb(buf, to, k, values, words, seats, out);
+    put(out, next.end);
+    next
+}
+
+// A proved loop has to end, and nothing says that the input does: it counts its turns down from a number that no run uses up.
+fn pump_all(
+    buf: &mut [u8],
+    values: &mut [u64],
+    words: &mut [u64],
+    seats: &mut [u64],
+    out: &mut [u8],
+) {
+    let mut f = Flow {
+        waiting: 0,
+        calls: 0,
+        offset: 1,
+        records: 0,
+        end: 0,
+        stopped: false,
+    };
+    let mut turns = u64::MAX;
+    while turns > 0 {
+        f = pump(f, buf, values, words, seats, out);
+        if f.stopped {
+            return;
+        }
+        turns -= 1;
+    }
+}
+
+// A frame has at most 65537 bytes, so one always fits.
+fn input_buffer() -> [u8; 65537]
+    ensures { λ r. ⌜ 65537 ≡ length r ⌝ }
+{
+    [0; 65537]
+}
+
+// Room for the lines of a full input buffer: 13 bytes for each of its bytes, and 40.
+fn output_buffer() -> [u8; 852021]
+    ensures { λ r. ⌜ 852021 ≡ length r ⌝ }
+{
+    [0; 852021]
+}
+
+fn main() {
+    let mut buf = input_buffer();
+    let mut values = [0u64; 1024];
+    let mut words = [0u64; 1024];
+    let mut seats = [0u64; 5536];
+    let mut out = output_buffer();
+    let mut first = [0u8; 1];
+    let got = libc::read(STDIN_FILENO, &mut first);
+    if got == 1 && first[0] == 1 {
+        pump_all(&mut buf, &mut values, &mut words, &mut seats, &mut out);
+        return;
+    }
+    // A tape with no version byte 1, or with none at all, prints one line.
+    let end = tape::run(&first[..0], &mut out);
+    put(&out, end as usize);
+}

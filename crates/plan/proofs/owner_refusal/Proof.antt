@@ -1,0 +1,49 @@
+-- `plan::owner_refusal` meets its contract. Assumes nothing.
+use borrow.Author.Needs.{needs}
+use borrow.Author.Tests.{le-leb, le-ltb, lt-leb, lt-ltb}
+use Rattle.plan.specs.Tally.{ownerRefusal}
+use Rattle.plan.proofs.owner_refusal.Statement.{statement}
+use Rattle.plan.proofs.owner_refusal.Tie as tie
+use Rattle.plan.proofs.owner_refusal.Reads as reads
+use Rattle.plan.proofs.owner_refusal.Lts as lts
+use Rattle.plan.proofs.is_crowded.Reads as is-crowded-reads
+
+-- src/lib.rt:179:9
+returns : tie.Need-returns
+unfolding ownerRefusal
+returns c = simp (lt-ltb _ _ (c .if1 .taken))
+
+-- src/lib.rt:182:9
+returns-2 : tie.Need-returns-2
+unfolding ownerRefusal
+returns-2 c = simp (
+  le-leb _ _ (c .if2 .taken),
+  le-ltb _ _ (c .before .if1 .left),
+)
+
+-- src/lib.rt:184:8
+is-crowded-requires : tie.Need-is-crowded-requires
+is-crowded-requires c κs = search needs
+
+-- src/lib.rt:185:9
+returns-3 : tie.Need-returns-3
+unfolding ownerRefusal
+returns-3 c = simp (
+  c .if3 .taken,
+  ← c .before .is-crowded .ensures,
+  lt-leb _ _ (c .before .before .if2 .left),
+  le-ltb _ _ (c .before .before .before .if1 .left),
+)
+
+-- src/lib.rt:175:1
+returns-4 : tie.Need-returns-4
+unfolding ownerRefusal
+returns-4 c = simp (
+  c .if3 .left,
+  ← c .before .is-crowded .ensures,
+  lt-leb _ _ (c .before .before .if2 .left),
+  le-ltb _ _ (c .before .before .before .if1 .left),
+)
+
+pub owner-refusal-spec : {M : Type 1} → statement M
+owner-refusal-spec = tie.close (tie.spec returns returns-2 is-crowded-requires returns-3 returns-4)

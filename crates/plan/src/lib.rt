@@ -1,0 +1,254 @@
+// Setup and Open: the plan of shares and limits, the seats held under it, and the seat that is given.
+ghost use mathlib.Core.Path.{_≡_};
+ghost use mathlib.Core.Bool.{true, false, cond, not, _||_, _&&_};
+ghost use mathlib.Core.List.{List};
+ghost use Prim.Native.Nat.{ℕ, _+_, max, _<_, _≤_};
+ghost use lib.Dec.{eqb, ltb, leb};
+ghost use lib.ListN.{length, getD, set};
+ghost use Rattle.rules.specs.Tests.{any};
+ghost use Rattle.rules.specs.Layout.{owners, seatCount, seatsLength};
+ghost use Rattle.rules.specs.Tables.{tables, after};
+ghost use Rattle.rules.specs.Plan.{badPlan, badRow, overLimit, claims, laid, opened, setup, openSeat, freeSeat};
+ghost use Rattle.plan.specs.Tally.{counted, lowest, Counts, Tallied, planRefusal, ownerRefusal};
+use clock::Packed;
+use rules::Answer;
+use seats::at;
+use seats::fill;
+use seats::free_row;
+use seats::is_unsized;
+use seats::layout::FREE;
+use seats::layout::LIMITS_FROM;
+use seats::layout::OWNER;
+use seats::layout::OWNERS;
+use seats::layout::PHASE;
+use seats::layout::PLAN_WIDTH;
+use seats::layout::ROW_WIDTH;
+use seats::layout::SEATS;
+use seats::layout::STORING;
+use seats::layout::WORKING;
+use seats::store;
+
+// A plan that Setup would refuse. `plan` is Setup's own, or a seat table, which begins with one.
+fn is_bad_plan(plan: &[u64]) -> bool
+    ensures { λ r. ⌜ r ≡ badPlan (now (plan .entry)) ⌝ }
+{
+    let mut sum = 0;
+    let mut o = 0;
+    while o < OWNERS {
+        let share = at(plan, o);
+        let limit = at(plan, LIMITS_FROM + o);
+        if limit < share {
+            return true;
+        }
+        if SEATS < limit {
+            return true;
+        }
+        sum += share;
+        o += 1;
+    }
+    SEATS < sum
+}
+
+// SETUP
+fn lay(seats: &mut [u64], plan: &[u64])
+    ensures { λ _. ⌜ now (seats .exit) ≡ laid (now (seats .entry)) (now (plan .entry)) 32 ⌝ }
+{
+    let mut i = 0;
+    while i < PLAN_WIDTH {
+        let v = at(plan, i);
+        store(seats, i, v);
+        i += 1;
+    }
+}
+
+// Every word fresh at `start`, the plan stored, every row free. Values stay.
+pub fn setup(
+    values: &[u64],
+    words: &mut [u64],
+    seats: &mut [u64],
+    start: u64,
+    plan: &[u64; 32],
+) -> Answer
+    ensures { λ r. ⌜ after r (now (values .entry)) (now (words .exit)) (now (seats .exit)) ≡ setup (tables (now (values .entry)) (now (words .entry)) (now (seats .entry))) start (now (plan .entry)) ⌝ }
+{
+    let records = words.len() as u64;
+    if is_unsized(values.len() as u64, records, seats.len() as u64) {
+        return Answer::Refused(1);
+    }
+    let Packed::Word(word) = clock::fresh(start) else {
+        return Answer::Refused(2);
+    };
+    if is_bad_plan(plan) {
+        return Answer::Refused(11);
+    }
+    fill(words, word);
+    fill(seats, 0);
+    lay(seats, plan);
+    Answer::Ready(records)
+}
+
+// OPEN
+// What one pass over the rows finds, beside the seats that each owner holds.
+struct Rows {
+    // whether a row is one that Open refuses
+    bad: bool,
+    // the lowest free seat
+    free: u64,
+}
+
+fn is_bad_row(phase: u64, owner: u64) -> bool
+    ensures { λ r. ⌜ r ≡ (ltb 4 phase || (not (eqb phase 0) && leb owners owner)) ⌝ }
+{
+    if STORING < phase {
+        return true;
+    }
+    phase != FREE && OWNERS <= owner
+}
+
+fn count(held: &mut [u64], phase: u64, owner: u64)
+    requires { ⌜ getD (now held) owner 0 ≤ seatCount ⌝ }
+    ensures { λ _. ⌜ now (held .exit) ≡ counted (now (held .entry)) phase owner ⌝ }
+{
+    if phase == FREE {
+        return;
+    }
+    let n = at(held, owner);
+    store(held, owner, n + 1);
+}
+
+fn lowest(free: u64, seat: u64, phase: u64) -> u64
+    ensures { λ r. ⌜ r ≡ lowest free seat (eqb phase 0) ⌝ }
+{
+    if free < SEATS {
+        return free;
+    }
+    if phase == FREE {
+        return seat;
+    }
+    free
+}
+
+fn tally(seats: &[u64], held: &mut [u64]) -> Rows
+    requires { ⌜ (length (now seats) ≡ seatsLength) × Counts (now seats) (now held) 0 ⌝ }
+    ensures { λ r. ⌜ Tallied (now (seats .entry)) (now (held .exit)) r ⌝ }
+{
+    let mut free = SEATS;
+    let mut i = 0;
+    while i < SEATS {
+        let phase = at(seats, PLAN_WIDTH + ROW_WIDTH * i + PHASE);
+        let owner = at(seats, PLAN_WIDTH + ROW_WIDTH * i + OWNER);
+        if is_bad_row(phase, owner) {
+            return Rows { bad: true, free };
+        }
+        count(held, phase, owner);
+        free = lowest(free, i, phase);
+        i += 1;
+    }
+    Rows { bad: false, free }
+}
+
+fn some_over(seats: &[u64], held: &[u64]) -> bool
+    requires { ⌜ Counts (now seats) (now held) seatCount ⌝ }
+    ensures { λ r. ⌜ r ≡ any (overLimit (now (seats .entry))) owners ⌝ }
+{
+    let mut o = 0;
+    while o < OWNERS {
+        if at(seats, LIMITS_FROM + o) < at(held, o) {
+            return true;
+        }
+        o += 1;
+    }
+    false
+}
+
+fn greater(a: u64, b: u64) -> u64
+    ensures { λ r. ⌜ r ≡ max a b ⌝ }
+{
+    if a < b { b } else { a }
+}
+
+// U: over all owners, the greater of held and share.
+fn claim_sum(seats: &[u64], held: &[u64]) -> u64
+    requires { ⌜ Counts (now seats) (now held) seatCount × (badPlan (now seats) ≡ false) ⌝ }
+    ensures { λ r. ⌜ r ≡ claims (now (seats .entry)) ⌝ }
+{
+    let mut sum = 0;
+    let mut o = 0;
+    while o < OWNERS {
+        sum += greater(at(held, o), at(seats, o));
+        o += 1;
+    }
+    sum
+}
+
+fn is_crowded(share: u64, mine: u64, claims: u64) -> bool
+    ensures { λ r. ⌜ r ≡ (leb share mine && eqb claims seatCount) ⌝ }
+{
+    share <= mine && claims == SEATS
+}
+
+fn owner_refusal(share: u64, limit: u64, mine: u64, claims: u64) -> u64
+    ensures { λ r. ⌜ r ≡ ownerRefusal share limit mine claims ⌝ }
+{
+    if SEATS < claims {
+        return 3;
+    }
+    if limit <= mine {
+        return 6;
+    }
+    if is_crowded(share, mine, claims) {
+        return 7;
+    }
+    0
+}
+
+// Refusals 3, 6 and 7, from the rows as they were counted.
+fn plan_refusal(seats: &[u64], held: &[u64], rows: Rows, owner: u64) -> u64
+    requires { ⌜ Tallied (now seats) (now held) rows × (owner < owners) ⌝ }
+    ensures { λ r. ⌜ r ≡ planRefusal (now (seats .entry)) owner ⌝ }
+{
+    if is_bad_plan(seats) {
+        return 3;
+    }
+    if rows.bad {
+        return 3;
+    }
+    if some_over(seats, held) {
+        return 3;
+    }
+    owner_refusal(
+        at(seats, owner),
+        at(seats, LIMITS_FROM + owner),
+        at(held, owner),
+        claim_sum(seats, held),
+    )
+}
+
+fn open_row(seats: &mut [u64], seat: u64, owner: u64)
+    requires { ⌜ (seat < seatCount) × (length (now seats) ≡ seatsLength) ⌝ }
+    ensures { λ _. ⌜ now (seats .exit) ≡ opened (now (seats .entry)) seat owner ⌝ }
+{
+    free_row(seats, seat);
+    store(seats, PLAN_WIDTH + ROW_WIDTH * seat + PHASE, WORKING);
+    store(seats, PLAN_WIDTH + ROW_WIDTH * seat + OWNER, owner);
+}
+
+// The lowest free seat, where the plan allows the owner one.
+pub fn open(values: &[u64], words: &[u64], seats: &mut [u64], owner: u64) -> Answer
+    ensures { λ r. ⌜ after r (now (values .entry)) (now (words .entry)) (now (seats .exit)) ≡ openSeat (tables (now (values .entry)) (now (words .entry)) (now (seats .entry))) owner ⌝ }
+{
+    if is_unsized(values.len() as u64, words.len() as u64, seats.len() as u64) {
+        return Answer::Refused(1);
+    }
+    if OWNERS <= owner {
+        return Answer::Refused(2);
+    }
+    let mut held = [0u64; OWNERS as usize];
+    let rows = tally(seats, &mut held);
+    let why = plan_refusal(seats, &held, rows, owner);
+    if why != 0 {
+        return Answer::Refused(why);
+    }
+    open_row(seats, rows.free, owner);
+    Answer::Seat(rows.free)
+}

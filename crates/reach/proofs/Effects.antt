@@ -1,0 +1,122 @@
+-- What any call does to tables that are in order: it is refused, or it changes one row, or it begins anew.
+use Prim.Native.Nat.{ℕ, _<_}
+use mathlib.Core.Path.{_≡_, refl, sym, subst}
+use mathlib.Core.Logic.{_≢_}
+use mathlib.Core.Bool.{Bool, true, false, cond}
+use mathlib.Core.List.{List, [], _∷_}
+use native.Mathlib.Omega.{arith}
+use borrow.Author.Tests.{eqb-true, leb-false}
+use lib.Dec.{ltb, eqb}
+use lib.ListN.{length, getD}
+use Rattle.clock.specs.Word.{top}
+use Rattle.rules.specs.Tests.{firstOf}
+use Rattle.rules.specs.Layout.{seatCount, planWidth, row, phase}
+use Rattle.rules.specs.Tables.{Tables, Outcome, keep, unless}
+use Rattle.rules.specs.Refusals.{unsized, misnamed, refusal}
+use Rattle.rules.specs.Plan.{badPlan, setupRefusal, setup, openRefusal, freeSeat, openSeat}
+use Rattle.rules.specs.Work.{readIn, read, writeIn, write}
+use Rattle.rules.specs.Advance.{letGo, advanceIn, advance, abandon}
+use Rattle.rules.specs.Calls.{Call, Setup, Open, Read, Write, Advance, Abandon, step, run}
+use Rattle.rules.specs.declared.Answer.the-variants.{Ready, Refused, Dropped}
+use Rattle.rows.specs.Fine.{cond-ind, none-of, Fine, fine}
+use Rattle.rows.specs.Begin.{begun}
+use Rattle.reach.specs.Tally.{about, names}
+use Rattle.reach.proofs.Tests.{by, not-third}
+use Rattle.reach.proofs.Order.{Zero, Used, Books, InOrder}
+use Rattle.reach.proofs.Rows.{undamaged}
+use Rattle.reach.proofs.Books.{books-less}
+use Rattle.reach.proofs.Steps.{Change, Told, Step, state-after}
+use Rattle.reach.proofs.Freed.{lets-go}
+use Rattle.reach.proofs.Moves.{drops, advance-ok}
+use Rattle.reach.proofs.Edits.{read-ok, write-ok}
+use Rattle.reach.proofs.Opens.{not-unsized, open-fair, room, free-seat, open-change, open-told, open-books}
+use Rattle.reach.proofs.Begin as B
+
+pub data Effect (t : Tables) (c : Call) (o : Outcome) : Type 0 where
+  refuses : (n : ℕ) → n ≢ 3 → o ≡ keep t (Refused n) → Effect t c o
+  changes : (s : ℕ) → s < seatCount → ((j : ℕ) → about j c (o .answer) ≡ eqb s j) → (h : List ℕ) → Change t (o .tables) s h →
+      Books (o .tables .seats) → Told (names c) (row (t .seats) s) h (o .answer) → Effect t c o
+  begins : (n start : ℕ) (plan : List ℕ) → c ≡ Setup start plan → o .answer ≡ Ready n → ((j : ℕ) → about j c (o .answer) ≡ true) →
+      InOrder (o .tables) → ((s : ℕ) → Zero (row (o .tables .seats) s)) → ((i : ℕ) → i < planWidth → getD (o .tables .seats) i 0 ≡ getD plan i 0) →
+      Effect t c o
+
+either : (t : Tables) (c : Call) (why : ℕ) (o : Outcome) → why ≢ 3 → (why ≡ 0 → Effect t c o) → Effect t c (unless why t o)
+either t c why o d f = cond-ind (Effect t c) (eqb why 0) (λ e. f (eqb-true why 0 e)) (λ e. refuses why d refl)
+
+-- A CALL THAT NAMES A SEAT
+seat-in : (n o s x : ℕ) → misnamed n o s x ≡ false → s < seatCount
+unfolding misnamed
+seat-in n o s x e = leb-false seatCount s (none-of _ e .1 .0)
+
+module _ (t : Tables) (k : InOrder t) (o s x last : ℕ) where
+  pub refusal-fair : refusal t o s x last ≢ 3
+  unfolding refusal
+  refusal-fair =
+      by (misnamed (length (t .words)) o s x)
+      (λ e. rw (not-unsized t k, e) (unfold firstOf in omega arith))
+      (λ e. rw (undamaged (row (t .seats) s) (length (t .words)) (k .rows s (seat-in _ o s x e))) (not-third _ _ _))
+
+  pub used-of : Fine t o s x last → Used (length (t .words)) (row (t .seats) s)
+  used-of f = k .rows s (f .seat-in) .in-use (f .used)
+
+seat-effect : (t : Tables) (c : Call) (s : ℕ) (o : Outcome) → InOrder t → s < seatCount → ((j : ℕ) → about j c (o .answer) ≡ eqb s j) →
+    Step t s (names c) o → Effect t c o
+seat-effect t c s o k low e p = changes s low e (p .next) (p .change) (books-less (p .change .becomes) low (p .mine) (k .books)) (p .told)
+
+-- SETUP, over any tables
+never-three : (a b d : Bool) → _≢_ {A = ℕ} (cond a 1 (cond b 2 (cond d 11 0))) 3
+never-three true b d = omega arith
+never-three false true d = omega arith
+never-three false false true = omega arith
+never-three false false false = omega arith
+
+pub setup-effect : (t : Tables) (start : ℕ) (plan : List ℕ) → Effect t (Setup start plan) (setup t start plan)
+unfolding setup about
+setup-effect t start plan =
+    either t (Setup start plan) (setupRefusal t start plan) _
+    (unfold setupRefusal in never-three (unsized (length (t .values)) (length (t .words)) (length (t .seats))) (ltb top start) (badPlan plan))
+    (λ e. let b = begun t start plan e in
+    begins (length (t .words)) start plan refl refl (λ j. refl) (B.begins t start plan b) (B.zeros t start plan b) (B.plan-laid t start plan b))
+
+-- ANY CALL
+pub effect : (t : Tables) → InOrder t → (c : Call) → Effect t c (step t c)
+unfolding step read write advance abandon openSeat about names
+effect t k (Setup start plan) = setup-effect t start plan
+effect t k (Open o) =
+    either t (Open o) (openRefusal t o) _ (open-fair t k o)
+    (λ e. let s : ℕ = freeSeat (t .seats) in
+    let f = free-seat t k o e in
+    let r = room t k o e in
+    changes s (f .0) (λ j. refl) _ (open-change t k o s (f .0) (f .1) (r .owner-in)) (open-books t k o s (f .0) (f .1) r) (open-told t k o s (f .0) (f .1)))
+effect t k (Read o s x) =
+    either t (Read o s x) (refusal t o s x 1) (readIn t s x) (refusal-fair t k o s x 1)
+    (λ e. let f = fine t o s x 1 e in
+    let d : phase (row (t .seats) s) ≢ 0 = f .used in
+    let p = f .phase-in in
+    seat-effect t (Read o s x) s (readIn t s x) k (f .seat-in) (λ j. refl) (read-ok t s x k (used-of t k o s x 1 f) (f .seat-in) (omega arith) (f .item-in)))
+effect t k (Write o s x v) =
+    either t (Write o s x v) (refusal t o s x 1) (writeIn t s x v) (refusal-fair t k o s x 1)
+    (λ e. let f = fine t o s x 1 e in
+    let d : phase (row (t .seats) s) ≢ 0 = f .used in
+    let p = f .phase-in in
+    seat-effect t (Write o s x v) s (writeIn t s x v) k (f .seat-in) (λ j. refl) (write-ok t s x k (used-of t k o s x 1 f) (f .seat-in) (omega arith) x v (f .item-in)))
+effect t k (Advance o s) =
+    either t (Advance o s) (refusal t o s 0 4) (advanceIn t s) (refusal-fair t k o s 0 4)
+    (λ e. let f = fine t o s 0 4 e in
+    seat-effect t (Advance o s) s (advanceIn t s) k (f .seat-in) (λ j. refl) (advance-ok t s 0 (k .sized .rows) (f .seat-in) (used-of t k o s 0 4 f)))
+effect t k (Abandon o s) =
+    either t (Abandon o s) (refusal t o s 0 3) (letGo t s (Dropped s)) (refusal-fair t k o s 0 3)
+    (λ e. let f = fine t o s 0 3 e in
+    seat-effect t (Abandon o s) s (letGo t s (Dropped s)) k (f .seat-in) (λ j. refl)
+    (lets-go t s 0 (k .sized .rows) (f .seat-in) (used-of t k o s 0 3 f) (Dropped s) (drops s) (f .phase-in)))
+
+-- and the tables are in order after it
+pub after-effect : (t : Tables) (c : Call) (o : Outcome) → InOrder t → Effect t c o → InOrder (o .tables)
+after-effect t c o k (refuses n d e) = subst (λ (q : Outcome). InOrder (q .tables)) (sym e) k
+after-effect t c o k (changes s low a h ch b told) = state-after t (o .tables) s h low ch b k
+after-effect t c o k (begins n start plan q e a b z p) = b
+
+pub in-order-run : (t : Tables) → InOrder t → (cs : List Call) → InOrder (run t cs)
+unfolding run
+in-order-run t k [] = k
+in-order-run t k (c ∷ cs) = in-order-run (step t c .tables) (after-effect t c (step t c) k (effect t k c)) cs

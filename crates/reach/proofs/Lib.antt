@@ -1,0 +1,26 @@
+-- The proofs of specs/, from the ground up.
+-- Tests and counts; the invariant (Order) and the laws of its parts: records named, words answered, rows, the plan
+pub mod Tests
+pub mod Count
+pub mod Order
+pub mod Named
+pub mod Script
+pub mod Rows
+pub mod Books
+-- what one call does to one row (Steps), call by call, and any call (Effects)
+pub mod Steps
+pub mod Freed
+pub mod Moves
+pub mod Inserted
+pub mod Edits
+pub mod Opens
+pub mod Begin
+pub mod Effects
+-- the theorems
+pub mod Reached
+pub mod Invariants
+pub mod Tally
+pub mod FairShare
+pub mod Life
+pub mod Left
+pub mod Storm

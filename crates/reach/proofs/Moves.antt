@@ -1,0 +1,355 @@
+-- Each step of an Advance.
+use Prim.Native.Nat.{ℕ, _+_, _*_, _<_, _≤_}
+use mathlib.Core.Path.{_≡_, refl, sym, ap, _∙_}
+use mathlib.Core.Logic.{_≢_}
+use mathlib.Core.Bool.{Bool, true, false, cond, not, true≢false}
+use mathlib.Core.List.{List, [], _∷_, _++_}
+use native.Mathlib.Omega.{arith}
+use borrow.Author.Tests.{eqb-true, eqb-false, ne-eqb, eq-eqb, ltb-true, ltb-false}
+use lib.Dec.{leb, ltb, eqb}
+use lib.ListN.{length, getD, set, length-set}
+use Rattle.clock.specs.Word.{top, isLocked, writeTime, readTime, withLock, fresh, extended}
+use Rattle.clock.specs.Laws.{withLock-is, fresh-is, extended-is}
+use Rattle.rules.specs.Layout.{seatCount, seatsLength, positionAt, timeAt, readItemAt, writeItemAt, row, put, phase, owner, position, reads, writes, time, readItem, keptWrite, writeItem, writeValue}
+use Rattle.rules.specs.Places.{length-row}
+use Rattle.rules.specs.Tables.{Tables, after}
+use Rattle.rules.specs.Answers.{locked, stored, kind}
+use Rattle.rules.specs.Advance.{moved, lockStep, commitTime, timeStep, verdict, checkItem, judged, stretched, passed, ruled, checkStep, sealStep, effect, storeStep, doneStep, lockPhase, checkPhase, storePhase, advanceIn}
+use Rattle.rules.specs.declared.Answer.{Answer}
+use Rattle.rules.specs.declared.Answer.the-variants.{Locked, Timed, Checked, Sealed, Stored, Done, Dropped, Aborted}
+use Rattle.rules.specs.declared.Verdict.{Verdict}
+use Rattle.rules.specs.declared.Verdict.the-variants.{Passes, Extends, Fails}
+use Rattle.rows.specs.Changed.{movedRow, Nudged, not-nudged, nudge-phase, nudge-position, nudge-time}
+use Rattle.rows.specs.Becomes.{Becomes, becomes-put, becomes-moved, then-put}
+use Rattle.rows.specs.CommitTime.{commit-kept}
+use Rattle.reach.specs.Invariants.{lockFrom, lockTo}
+use Rattle.reach.specs.Tally.{Tally, adds}
+use Rattle.reach.proofs.Tests.{by}
+use Rattle.reach.proofs.Count.{one, one-le}
+use Rattle.reach.proofs.Order.{Head, Used, locks, passes, lockBit}
+use Rattle.reach.proofs.Script.{script-length, Word, says-locked, says-timed, says-checked, says-sealed, says-stored, word-next}
+use Rattle.reach.proofs.Named.{named-yes, named-no, named-same, named-alike, locks-same, locks-none}
+use Rattle.reach.proofs.Rows.{nudged-at, nudged-owner, nudged-reads, nudged-writes, used-nudged, row-used, from-zero, from-four, to-early, to-late, passes-early, passes-three, passes-four, early-fits}
+use Rattle.reach.proofs.Books.{held-less}
+use Rattle.reach.proofs.Steps.{Follows, StaysTimely, tallyOf, tally-is, Told, Step, set-ind}
+use Rattle.reach.proofs.Freed.{Ends, free-step, lets-go}
+
+-- the answers that end a transaction
+pub aborts : (n : ℕ) → Ends (Aborted n)
+unfolding adds
+aborts n = record { ends = λ y k. refl; plain = λ e. omega arith; given = λ e. omega arith }
+
+pub drops : (n : ℕ) → Ends (Dropped n)
+unfolding adds
+drops n = record { ends = λ y k. refl; plain = λ e. omega arith; given = λ e. omega arith }
+
+dones : (n : ℕ) → Ends (Done n)
+unfolding adds
+dones n = record { ends = λ y k. refl; plain = λ e. omega arith; given = λ e. omega arith }
+
+-- a verdict that extends, extends a word whose write time is the kept one
+by-tests : (a b : Bool) (o : Verdict) → cond a Passes (cond (not b) (Fails 22) o) ≡ Extends → b ≡ true
+by-tests true b o e = absurd (let z : _≡_ {A = ℕ} 0 1 = cc in omega arith)
+by-tests false true o e = refl
+by-tests false false o e = absurd (let z : _≡_ {A = ℕ} 0 1 = cc in omega arith)
+
+extends-kept : (wrote upTo tc word : ℕ) (own : Bool) → verdict wrote upTo tc word own ≡ Extends → writeTime word ≡ wrote
+unfolding verdict
+extends-kept wrote upTo tc word own e = eqb-true (writeTime word) wrote (by-tests (leb tc upTo) (eqb (writeTime word) wrote) _ e)
+
+-- what is told of a row that was g: one word more, sealed or not
+abbrev stepped : ℕ → Bool → List ℕ → Tally
+stepped k b g =
+    record {
+      isOpen = tallyOf g .isOpen;
+      holder = tallyOf g .holder;
+      words = tallyOf g .words ++ (k ∷ []);
+      isSealed = b;
+      wrote = tallyOf g .wrote;
+      read = tallyOf g .read;
+    }
+
+-- one Advance further, answered with a step's word
+record Further (g h : List ℕ) (k : ℕ) : Type 0 where
+  least : locked ≤ k
+  most : k ≤ stored
+  was-used : 1 ≤ phase g
+  is-used : 1 ≤ phase h
+  fits : passes g < 2 * writes g + reads g + 3
+  further : passes h ≡ passes g + 1
+
+-- a nudge leaves the entries, and so the records written and read
+told-more : (y : ℕ) {g h : List ℕ} {ph p tm : ℕ} (a : Answer) (b : Bool) → Nudged g h ph p tm → Word (writes g) (reads g) (passes g) (kind a) →
+    Further g h (kind a) → eqb (phase h) 4 ≡ b → stepped (kind a) b g ≡ adds y a (tallyOf g) → Told y g h a
+told-more y {g} {h} a b n x f e same =
+    let w = nudged-writes n in
+    let r = nudged-reads n in
+    let z = script-length (writes g) (reads g) in
+    let fits = f .fits in
+    record {
+      tallied =
+          tally-is h (stepped (kind a) b g)
+          (ap not (ne-eqb (phase h) 0 (let q = f .is-used in omega arith) ∙ sym (ne-eqb (phase g) 0 (let q = f .was-used in omega arith))))
+          (nudged-owner n)
+          (rw (f .further, w, r) (word-next x (λ q. omega (arith, f .most)) (omega arith)))
+          e
+          (named-alike (writeItem g) (writeItem h) 0 (writes g) 0 (writes h) refl w (λ i l. nudged-at n (writeItemAt i) (omega arith)))
+          (named-alike (readItem g) (readItem h) 0 (reads g) 0 (reads h) refl r (λ i l. nudged-at n (readItemAt i) (omega arith)))
+          ∙ same;
+      fair = λ q. absurd (omega (arith, f .most));
+      plain = λ q. omega (arith, f .least);
+    }
+
+module _ (t : Tables) (s y : ℕ) (size : length (t .seats) ≡ seatsLength) (small : s < seatCount) (u : Used (length (t .words)) (row (t .seats) s)) where
+  abbrev g : List ℕ
+  g = row (t .seats) s
+
+  whole : Nudged g g (phase g) (position g) (time g)
+  whole = not-nudged g (length-row (t .seats) s size small)
+
+  -- a step whose row is nudged
+  nudge-step : (values words seats h : List ℕ) (a : Answer) {ph p tm : ℕ} → Becomes (t .seats) seats s h → Nudged g h ph p tm →
+      length values ≡ length (t .values) → length words ≡ length (t .words) → Head h → (3 ≤ ph → (i : ℕ) → i < reads g → keptWrite g i ≤ tm) →
+      Follows (t .words) words g h → StaysTimely (t .words) words → Told y g h a → Step t s y (after a values words seats)
+  nudge-step values words seats h a b n ev ew hd k lk tk told =
+      let us = u .head .used in
+      record {
+        next = h;
+        change = record { becomes = b; values = ev; words = ew; in-order = row-used (used-nudged n u hd k); locked = lk; timely = tk };
+        mine = held-less g h (omega arith) (nudged-owner n);
+        told = told;
+      }
+
+  -- the same locks, by words whose locks are the same
+  calm : (words h : List ℕ) {ph p tm : ℕ} → Nudged g h ph p tm → ((x : ℕ) → x < length (t .words) → lockBit words x ≡ lockBit (t .words) x) →
+      lockFrom h ≡ lockFrom g → lockTo h ≡ lockTo g → Follows (t .words) words g h
+  calm words h n eb el et x l le =
+      let a = eb x l in
+      let b : one (locks h x) ≡ one (locks g x) = ap one (locks-same g h el et (λ i _. nudged-at n (writeItemAt i) (omega arith)) x) in
+      omega arith
+
+  not-four : (h : List ℕ) → phase g ≢ 4 → phase h ≢ 4 → eqb (phase h) 4 ≡ eqb (phase g) 4
+  not-four h a b = ne-eqb _ _ b ∙ sym (ne-eqb _ _ a)
+
+  -- PHASES 1 AND 2
+  take-lock : phase g ≤ 2 → position g < writes g → (x word : ℕ) → x ≡ writeItem g (position g) → word ≡ getD (t .words) x 0 → isLocked word ≡ false →
+      Step t s y (after (Locked x) (t .values) (set (t .words) x (withLock true word)) (moved (t .seats) s 2 (position g + 1)))
+  unfolding locks adds
+  take-lock p b x word ex ew free =
+      let q : ℕ = position g + 1 in
+      let h : List ℕ = movedRow g 2 (position g + 1) in
+      let n = nudge-position (nudge-phase whole 2) q in
+      let n0 : phase h ≡ 2 = n .is-phase in
+      let n1 : owner h ≡ owner g = nudged-owner n in
+      let n2 : position h ≡ position g + 1 = n .is-position in
+      let n4 : writes h ≡ writes g = nudged-writes n in
+      let n5 : time h ≡ time g = n .is-time in
+      let hd = u .head in
+      let hu = hd .used in
+      let ho = hd .owner-in in
+      let h5 = hd .untimed p in
+      let ht = hd .timely in
+      let inside : x < length (t .words) = rw ex (u .entries .write-in (position g) b) in
+      let lg = from-zero g (omega arith) in
+      let tg = to-early g p in
+      let lh = from-zero h (omega arith) in
+      let th = to-early h (omega arith) in
+      let ent : (i : ℕ) → writeItem h i ≡ writeItem g i = (λ i. nudged-at n (writeItemAt i) (omega arith)) in
+      let pg = passes-early g p in
+      let ph = passes-early h (omega arith) in
+      let now = withLock-is true word in
+      nudge-step (t .values) (set (t .words) x (withLock true word)) (moved (t .seats) s 2 q) h (Locked x) (becomes-moved (t .seats) s 2 q) n refl (length-set (t .words) x (withLock true word))
+      (omega arith)
+      (λ k. absurd (omega arith))
+      (λ z l le. set-ind (λ v. one (isLocked v) + one (locks g z) ≡ lockBit (t .words) z + one (locks h z)) (t .words) x (withLock true word) z inside
+      (λ e. let b0 : lockBit (t .words) z ≡ 0 = ap one (ap (λ (j : ℕ). isLocked (getD (t .words) j 0)) (sym e) ∙ ap isLocked (sym ew) ∙ free) in
+      let b1 : one (isLocked (withLock true word)) ≡ 1 = ap one (now .is-locked) in
+      let b2 : one (locks h z) ≡ 1 = ap one (named-yes (writeItem h) (lockFrom h) (lockTo h) z (position g) (record { from = omega arith; below = omega arith; named = ent (position g) ∙ sym ex ∙ e })) in
+      omega arith)
+      (λ d. let b2 : one (locks h z) ≡ one (locks g z) = ap one (named-same (writeItem g) (writeItem h) (lockFrom g) (lockTo g) (lockFrom h) (lockTo h) z
+      (λ i r. let a = r .below in record { from = omega arith; below = omega arith; named = ent i ∙ r .named })
+      (λ i r. let a = r .below in
+      let nm : writeItem g i ≡ z = sym (ent i) ∙ r .named in
+      let j : i ≢ position g = (λ k. d (ex ∙ ap (λ (i : ℕ). writeItem g i) (sym k) ∙ nm)) in
+      record { from = omega arith; below = omega arith; named = nm })) in
+      omega arith))
+      (λ z l le. set-ind (λ v. readTime v ≤ top) (t .words) x (withLock true word) z inside
+      (λ e. rw (now .is-read, ew, e) le) (λ d. le))
+      (told-more y (Locked x) _ n (says-locked (omega arith) refl) (omega arith) (not-four h (omega arith) (omega arith)) refl)
+
+  lock-ok : phase g ≤ 2 → position g < writes g → Step t s y (lockStep t s)
+  unfolding lockStep
+  lock-ok p b =
+      by (isLocked (getD (t .words) (writeItem g (position g)) 0))
+      (λ e. rw e (lets-go t s y size small u (Aborted 21) (aborts 21) (omega arith)))
+      (λ e. rw e (take-lock p b (writeItem g (position g)) _ refl refl e))
+
+  timed-ok : phase g ≤ 2 → position g ≡ writes g → (tc : ℕ) → ((i : ℕ) → i < reads g → keptWrite g i ≤ tc) → tc ≤ top →
+      Step t s y (after (Timed tc) (t .values) (t .words) (put (moved (t .seats) s 3 0) s timeAt tc))
+  unfolding adds
+  timed-ok p e tc kept late =
+      let h : List ℕ = set (movedRow g 3 0) timeAt tc in
+      let n = nudge-time (nudge-position (nudge-phase whole 3) 0) tc in
+      let n0 : phase h ≡ 3 = n .is-phase in
+      let n1 : owner h ≡ owner g = nudged-owner n in
+      let n2 : position h ≡ 0 = n .is-position in
+      let n4 : writes h ≡ writes g = nudged-writes n in
+      let n5 : time h ≡ tc = n .is-time in
+      let ho = u .head .owner-in in
+      let hu = u .head .used in
+      let pg = passes-early g p in
+      let ph = passes-three h n0 in
+      nudge-step (t .values) (t .words) (put (moved (t .seats) s 3 0) s timeAt tc) h (Timed tc) (then-put timeAt tc (omega arith) (becomes-moved (t .seats) s 3 0)) n refl refl
+      (omega arith)
+      (λ q. kept)
+      (calm (t .words) h n (λ x l. refl) (from-zero h (omega arith) ∙ sym (from-zero g (omega arith))) (to-late h (omega arith) ∙ n4 ∙ sym e ∙ sym (to-early g p)))
+      (λ x l le. le)
+      (told-more y (Timed tc) _ n (says-timed (omega arith) refl) (omega arith) (not-four h (omega arith) (omega arith)) refl)
+
+  time-ok : phase g ≤ 2 → writes g ≤ position g → Step t s y (timeStep t s)
+  unfolding timeStep
+  time-ok p b =
+      let tc : ℕ = commitTime (t .words) g in
+      let e : position g ≡ writes g = (let q = early-fits g (u .head) p in omega arith) in
+      by (ltb top tc)
+      (λ k. rw k (lets-go t s y size small u (Aborted 24) (aborts 24) (omega arith)))
+      (λ k. rw k (timed-ok p e tc (commit-kept (t .words) g) (ltb-false top tc k)))
+
+  -- PHASE 3
+  pass-ok : phase g ≡ 3 → position g < reads g → (words : List ℕ) → length words ≡ length (t .words) →
+      ((x : ℕ) → x < length (t .words) → lockBit words x ≡ lockBit (t .words) x) → StaysTimely (t .words) words → Step t s y (passed t s words)
+  unfolding passed adds
+  pass-ok p b words ew eb et =
+      let q : ℕ = position g + 1 in
+      let h : List ℕ = set g positionAt (position g + 1) in
+      let n = nudge-position whole q in
+      let n0 : phase h ≡ phase g = n .is-phase in
+      let n1 : owner h ≡ owner g = nudged-owner n in
+      let n2 : position h ≡ position g + 1 = n .is-position in
+      let n3 : reads h ≡ reads g = nudged-reads n in
+      let n4 : writes h ≡ writes g = nudged-writes n in
+      let n5 : time h ≡ time g = n .is-time in
+      let ho = u .head .owner-in in
+      let ht = u .head .timely in
+      let pg = passes-three g p in
+      let ph = passes-three h (omega arith) in
+      nudge-step (t .values) words (put (t .seats) s positionAt q) h (Checked (checkItem g)) (becomes-put (t .seats) s positionAt q (omega arith)) n refl ew
+      (omega arith)
+      (u .not-below)
+      (calm words h n eb (from-zero h (omega arith) ∙ sym (from-zero g (omega arith))) (to-late h (omega arith) ∙ n4 ∙ sym (to-late g (omega arith))))
+      et
+      (told-more y (Checked (checkItem g)) _ n (says-checked (position g) b (omega arith) refl) (omega arith) (not-four h (omega arith) (omega arith)) refl)
+
+  ruled-ok : phase g ≡ 3 → position g < reads g → (v : Verdict) → judged (t .words) g ≡ v → Step t s y (ruled t s v)
+  unfolding ruled judged stretched
+  ruled-ok p b Passes e = pass-ok p b (t .words) refl (λ x h. refl) (λ x h le. le)
+  ruled-ok p b Extends e =
+      let x : ℕ = checkItem g in
+      let word : ℕ = getD (t .words) x 0 in
+      let kept : writeTime word ≡ keptWrite g (position g) = extends-kept _ _ _ word _ e in
+      let from : keptWrite g (position g) ≤ time g = u .not-below (omega arith) (position g) b in
+      let inside : x < length (t .words) = u .entries .read-in (position g) b in
+      let now = extended-is word (time g) (omega arith) (u .head .timely) in
+      pass-ok p b (set (t .words) x (extended word (time g))) (length-set (t .words) x (extended word (time g)))
+      (λ z l. set-ind (λ v. one (isLocked v) ≡ lockBit (t .words) z) (t .words) x (extended word (time g)) z inside
+      (λ q. ap one (now .is-locked ∙ ap (λ (j : ℕ). isLocked (getD (t .words) j 0)) q)) (λ d. refl))
+      (λ z l le. set-ind (λ v. readTime v ≤ top) (t .words) x (extended word (time g)) z inside
+      (λ q. rw (now .is-read) (u .head .timely)) (λ d. le))
+  ruled-ok p b (Fails why) e = lets-go t s y size small u (Aborted why) (aborts why) (omega arith)
+
+  seal-ok : phase g ≡ 3 → reads g ≤ position g → Step t s y (sealStep t s)
+  unfolding sealStep adds
+  seal-ok p b =
+      let h : List ℕ = movedRow g 4 0 in
+      let n = nudge-position (nudge-phase whole 4) 0 in
+      let n0 : phase h ≡ 4 = n .is-phase in
+      let n1 : owner h ≡ owner g = nudged-owner n in
+      let n2 : position h ≡ 0 = n .is-position in
+      let n3 : reads h ≡ reads g = nudged-reads n in
+      let n4 : writes h ≡ writes g = nudged-writes n in
+      let n5 : time h ≡ time g = n .is-time in
+      let ho = u .head .owner-in in
+      let hc = u .head .checking p in
+      let ht = u .head .timely in
+      let pg = passes-three g p in
+      let ph = passes-four h n0 in
+      nudge-step (t .values) (t .words) (moved (t .seats) s 4 0) h (Sealed (time g)) (becomes-moved (t .seats) s 4 0) n refl refl
+      (omega arith)
+      (λ q. u .not-below (omega arith))
+      (calm (t .words) h n (λ x l. refl) (from-four h n0 ∙ n2 ∙ sym (from-zero g (omega arith))) (to-late h (omega arith) ∙ n4 ∙ sym (to-late g (omega arith))))
+      (λ x l le. le)
+      (told-more y (Sealed (time g)) true n (says-sealed (omega arith) refl) (omega arith) (eq-eqb (phase h) 4 n0) refl)
+
+  -- PHASE 4
+  store-ok : phase g ≡ 4 → position g < writes g → Step t s y (storeStep t s)
+  unfolding storeStep locks adds
+  store-ok p b =
+      let x : ℕ = writeItem g (position g) in
+      let v : ℕ = effect (writeValue g (position g)) (getD (t .values) x 0) in
+      let f : ℕ = fresh (time g) in
+      let q : ℕ = position g + 1 in
+      let h : List ℕ = set g positionAt (position g + 1) in
+      let n = nudge-position whole q in
+      let n0 : phase h ≡ phase g = n .is-phase in
+      let n1 : owner h ≡ owner g = nudged-owner n in
+      let n2 : position h ≡ position g + 1 = n .is-position in
+      let n3 : reads h ≡ reads g = nudged-reads n in
+      let n4 : writes h ≡ writes g = nudged-writes n in
+      let n5 : time h ≡ time g = n .is-time in
+      let ho = u .head .owner-in in
+      let ht = u .head .timely in
+      let pg = passes-four g p in
+      let ph = passes-four h (omega arith) in
+      let inside : x < length (t .words) = u .entries .write-in (position g) b in
+      let lg = from-four g p in
+      let tg = to-late g (omega arith) in
+      let lh = from-four h (omega arith) in
+      let th = to-late h (omega arith) in
+      let ent : (i : ℕ) → writeItem h i ≡ writeItem g i = (λ i. nudged-at n (writeItemAt i) (omega arith)) in
+      let now = fresh-is (time g) ht in
+      nudge-step (set (t .values) x v) (set (t .words) x f) (put (t .seats) s positionAt q) h (Stored x) (becomes-put (t .seats) s positionAt q (omega arith)) n (length-set (t .values) x v) (length-set (t .words) x f)
+      (omega arith)
+      (u .not-below)
+      (λ z l le. set-ind (λ v. one (isLocked v) + one (locks g z) ≡ lockBit (t .words) z + one (locks h z)) (t .words) x f z inside
+      (λ e. let b0 : one (locks g z) ≡ 1 = ap one (named-yes (writeItem g) (lockFrom g) (lockTo g) z (position g) (record { from = omega arith; below = omega arith; named = e })) in
+      let b1 : one (isLocked f) ≡ 0 = ap one (now .is-locked) in
+      let b2 : one (locks h z) ≡ 0 = ap one (named-no (writeItem h) (lockFrom h) (lockTo h) z (λ i r.
+      let a = r .from in let k = r .below in
+      let up = u .entries .ascending (position g) i (omega arith) (omega arith) in
+      let nm : writeItem g i ≡ x = sym (ent i) ∙ r .named ∙ sym e in
+      omega arith)) in
+      let b3 = one-le (isLocked (getD (t .words) z 0)) in
+      omega arith)
+      (λ d. let b2 : one (locks h z) ≡ one (locks g z) = ap one (named-same (writeItem g) (writeItem h) (lockFrom g) (lockTo g) (lockFrom h) (lockTo h) z
+      (λ i r. let a = r .from in let k = r .below in
+      let j : i ≢ position g = (λ k. d (ap (λ (i : ℕ). writeItem g i) (sym k) ∙ r .named)) in
+      record { from = omega arith; below = omega arith; named = ent i ∙ r .named })
+      (λ i r. let a = r .from in let k = r .below in record { from = omega arith; below = omega arith; named = sym (ent i) ∙ r .named })) in
+      omega arith))
+      (λ z l le. set-ind (λ v. readTime v ≤ top) (t .words) x f z inside (λ e. rw (now .is-read) ht) (λ d. le))
+      (told-more y (Stored x) _ n (says-stored (position g) b (omega arith) refl) (omega arith) (ap (λ (k : ℕ). eqb k 4) n0) refl)
+
+  done-ok : phase g ≡ 4 → writes g ≤ position g → Step t s y (doneStep t s)
+  unfolding doneStep
+  done-ok p b =
+      let none : (x : ℕ) → locks g x ≡ false = (λ x. locks-none g x (let a = from-four g p in let k = to-late g (omega arith) in omega arith)) in
+      free-step t s y size small u (t .words) (Done (time g)) (dones (time g)) refl (λ x h q. absurd (true≢false (sym q ∙ none x))) (λ x h q. refl)
+
+  pub advance-ok : Step t s y (advanceIn t s)
+  unfolding advanceIn lockPhase checkPhase checkStep storePhase
+  advance-ok =
+      let hu = u .head .used in
+      let hp = u .head .phase-in in
+      let early : phase g ≤ 2 → Step t s y (lockPhase t s) =
+      (λ p. by (ltb (position g) (writes g)) (λ e. rw e (lock-ok p (ltb-true _ _ e))) (λ e. rw e (time-ok p (ltb-false _ _ e)))) in
+      by (eqb (phase g) 1) (λ e1. rw e1 (early (let q = eqb-true (phase g) 1 e1 in omega arith)))
+      (λ e1. rw e1 (by (eqb (phase g) 2) (λ e2. rw e2 (early (let q = eqb-true (phase g) 2 e2 in omega arith)))
+      (λ e2. rw e2 (by (eqb (phase g) 3)
+      (λ e3. let p = eqb-true (phase g) 3 e3 in
+      rw e3 (by (ltb (position g) (reads g)) (λ e. rw e (ruled-ok p (ltb-true _ _ e) (judged (t .words) g) refl)) (λ e. rw e (seal-ok p (ltb-false _ _ e)))))
+      (λ e3. rw e3 (
+      let d1 : phase g ≢ 1 = eqb-false _ _ e1 in
+      let d2 : phase g ≢ 2 = eqb-false _ _ e2 in
+      let d3 : phase g ≢ 3 = eqb-false _ _ e3 in
+      let p : phase g ≡ 4 = omega arith in
+      rw (eq-eqb (phase g) 4 p) (by (ltb (position g) (writes g)) (λ e. rw e (store-ok p (ltb-true _ _ e))) (λ e. rw e (done-ok p (ltb-false _ _ e))))))))))

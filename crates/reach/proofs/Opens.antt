@@ -1,0 +1,167 @@
+-- Open: what it is refused for, and the row that it gives.
+use Prim.Native.Nat.{ℕ, _<_, _≤_}
+use mathlib.Core.Path.{_≡_, refl, ap, _∙_}
+use mathlib.Core.Logic.{_≢_}
+use mathlib.Core.Bool.{false, cond, not}
+use mathlib.Core.List.{List}
+use native.Mathlib.Omega.{arith}
+use borrow.Author.Tests.{eqb-true, eqb-false, ne-eqb, eq-eqb, leb-false, le-ltb, le-leb, lt-leb}
+use lib.Dec.{leb, eqb}
+use lib.ListN.{length, take}
+use Rattle.rules.specs.Tests.{firstOf}
+use Rattle.rules.specs.Layout.{owners, seatCount, mostRecords, seatsLength, positionAt, readsAt, writesAt, timeAt, row, phase, owner, position, reads, writes, time, share, limit}
+use Rattle.rules.specs.Places.{length-row}
+use Rattle.rules.specs.Tables.{Tables, after}
+use Rattle.rules.specs.Refusals.{unsized}
+use Rattle.rules.specs.Plan.{badRow, held, claims, overLimit, unsound, crowded, openRefusal, isFree, freeSeat, opened}
+use Rattle.rules.specs.declared.Answer.the-variants.{Seat}
+use Rattle.rows.specs.Search.{none-any, first-hit}
+use Rattle.rows.specs.Fine.{first-none}
+use Rattle.rows.specs.FreeSeat.{seat-found}
+use Rattle.rows.specs.Changed.{openedRow, opened-row}
+use Rattle.rows.specs.Becomes.{becomes-opened}
+use Rattle.reach.specs.Tally.{adds}
+use Rattle.reach.specs.Life.{script}
+use Rattle.reach.proofs.Tests.{by, all-none, not-third}
+use Rattle.reach.proofs.Count.{one}
+use Rattle.reach.proofs.Order.{locks, Books, InOrder}
+use Rattle.reach.proofs.Named.{named-empty, locks-none}
+use Rattle.reach.proofs.Rows.{row-used, to-early, passes-early}
+use Rattle.reach.proofs.Books.{books-open}
+use Rattle.reach.proofs.Steps.{tallyOf, tally-is, Change, Told}
+use Rattle.reach.proofs.Freed.{locks-free}
+
+-- tables in order are sized and sound
+pub not-unsized : (t : Tables) → InOrder t → unsized (length (t .values)) (length (t .words)) (length (t .seats)) ≡ false
+unfolding unsized
+not-unsized t k =
+    let z = k .sized in
+    all-none _ (
+      rw (eq-eqb _ _ (z .same)) refl,
+      (
+        ne-eqb (length (t .words)) 0 (let h = z .some in omega arith),
+        (
+          le-ltb mostRecords (length (t .words)) (z .few),
+          (rw (eq-eqb (length (t .seats)) seatsLength (z .rows)) refl, tt),
+        ),
+      ),
+    )
+
+pub not-unsound : (t : Tables) → InOrder t → unsound (t .seats) ≡ false
+unfolding unsound badRow overLimit
+not-unsound t k =
+    all-none _ (
+      k .books .plan,
+      (
+        none-any _ seatCount (λ s h. by (eqb (phase (row (t .seats) s)) 0)
+            (λ e. let z = eqb-true (phase (row (t .seats) s)) 0 e in all-none _ (le-ltb 4 (phase (row (t .seats) s)) (omega arith), (rw e refl, tt)))
+            (λ e. let u = k .rows s h .in-use (eqb-false _ _ e) in
+            all-none _ (le-ltb 4 (phase (row (t .seats) s)) (u .head .phase-in), (rw e (lt-leb owners (owner (row (t .seats) s)) (u .head .owner-in)), tt)))),
+        (
+          none-any _ owners (λ o h. le-ltb (limit (t .seats) o) (held (t .seats) o) (k .books .limits o h)),
+          (le-ltb seatCount (claims (t .seats)) (k .books .room), tt),
+        ),
+      ),
+    )
+
+-- Open that is not refused
+pub record Room (t : Tables) (o : ℕ) : Type 0 where
+  pub owner-in : o < owners
+  pub below : held (t .seats) o < limit (t .seats) o
+  pub fair : share (t .seats) o ≤ held (t .seats) o → claims (t .seats) ≢ seatCount
+
+module _ (t : Tables) (k : InOrder t) (o : ℕ) where
+  pub open-fair : openRefusal t o ≢ 3
+  unfolding openRefusal
+  open-fair = rw (not-unsound t k) (not-third _ _ _)
+
+  pub open-refusal : o < owners → openRefusal t o ≡ cond (leb (limit (t .seats) o) (held (t .seats) o)) 6 (cond (crowded (t .seats) o) 7 0)
+  unfolding openRefusal firstOf
+  open-refusal h = rw (not-unsized t k, lt-leb owners o h, not-unsound t k) refl
+
+  pub open-no-owner : owners ≤ o → openRefusal t o ≡ 2
+  unfolding openRefusal firstOf
+  open-no-owner h = rw (not-unsized t k, le-leb owners o h) refl
+
+  pub room : openRefusal t o ≡ 0 → Room t o
+  unfolding openRefusal crowded
+  room e =
+      let r = first-none 0 _ e in
+      record {
+        owner-in = leb-false owners o (r .1 .0);
+        below = leb-false (limit (t .seats) o) (held (t .seats) o) (r .1 .1 .1 .1 .1 .0);
+        fair = λ h. eqb-false (claims (t .seats)) seatCount (rw (le-leb _ _ h) at (r .1 .1 .1 .1 .1 .1 .0));
+      }
+
+  pub free-seat : openRefusal t o ≡ 0 → (freeSeat (t .seats) < seatCount) × (phase (row (t .seats) (freeSeat (t .seats))) ≡ 0)
+  unfolding freeSeat isFree
+  free-seat e = let l = seat-found t o e in (l, eqb-true _ 0 (first-hit (isFree (t .seats)) seatCount l))
+
+  -- the row that it gives
+  module _ (s : ℕ) (small : s < seatCount) (free : phase (row (t .seats) s) ≡ 0) where
+    abbrev h : List ℕ
+    h = openedRow o
+
+    pub open-change : o < owners → Change t (after (Seat s) (t .values) (t .words) (opened (t .seats) s o) .tables) s (openedRow o)
+    open-change b =
+        let z = opened-row o in
+        let d0 : phase h ≡ 1 = z .is-phase in
+        let d1 : owner h ≡ o = z .is-owner in
+        let d2 : position h ≡ 0 = z .rest positionAt (omega arith) (omega arith) in
+        let d3 : reads h ≡ 0 = z .rest readsAt (omega arith) (omega arith) in
+        let d4 : writes h ≡ 0 = z .rest writesAt (omega arith) (omega arith) in
+        let d5 : time h ≡ 0 = z .rest timeAt (omega arith) (omega arith) in
+        record {
+          becomes = becomes-opened (t .seats) s o (length-row (t .seats) s (k .sized .rows) small);
+          values = refl;
+          words = refl;
+          in-order = row-used
+              (record {
+                head = omega arith;
+                entries = record {
+                  reads-in = omega arith;
+                  writes-in = omega arith;
+                  read-in = λ i a. absurd (omega arith);
+                  write-in = λ i a. absurd (omega arith);
+                  distinct = λ i j a e. absurd (omega arith);
+                  ascending = λ i j a e. absurd (omega arith);
+                  ordered = λ i a. absurd (omega arith);
+                  kept-timely = λ i a. absurd (omega arith);
+                  no-read = λ f a e. z .rest f (omega arith) (omega arith);
+                  no-write = λ f a e. z .rest f (omega arith) (omega arith);
+                };
+                not-below = λ a. absurd (omega arith);
+              });
+          locked = λ x a e.
+              let n0 : one (locks (row (t .seats) s) x) ≡ 0 = ap one (locks-free (row (t .seats) s) (k .rows s small .free free) x) in
+              let n1 : one (locks h x) ≡ 0 = ap one (locks-none h x (let y = to-early h (omega arith) in omega arith)) in
+              omega arith;
+          timely = λ x a e. e;
+        }
+
+    pub open-told : Told o (row (t .seats) s) (openedRow o) (Seat s)
+    unfolding adds
+    open-told =
+        let z = opened-row o in
+        let d0 : phase h ≡ 1 = z .is-phase in
+        let d2 : position h ≡ 0 = z .rest positionAt (omega arith) (omega arith) in
+        let d3 : reads h ≡ 0 = z .rest readsAt (omega arith) (omega arith) in
+        let d4 : writes h ≡ 0 = z .rest writesAt (omega arith) (omega arith) in
+        record {
+          tallied =
+              tally-is h (adds o (Seat s) (tallyOf (row (t .seats) s)))
+              (ap not (ne-eqb (phase h) 0 (omega arith)))
+              (z .is-owner)
+              (ap (λ (n : ℕ). take n (script (writes h) (reads h))) (passes-early h (omega arith) ∙ d2))
+              (ne-eqb (phase h) 4 (omega arith))
+              (λ x. named-empty _ 0 (writes h) x (omega arith))
+              (λ x. named-empty _ 0 (reads h) x (omega arith));
+          fair = λ e. absurd (omega arith);
+          plain = λ e. omega arith;
+        }
+
+    pub open-books : Room t o → Books (opened (t .seats) s o)
+    open-books r =
+        let z = opened-row o in
+        let d0 : phase h ≡ 1 = z .is-phase in
+        books-open (becomes-opened (t .seats) s o (length-row (t .seats) s (k .sized .rows) small)) small o (r .owner-in) free (omega arith) (z .is-owner) (r .below) (r .fair) (k .books)

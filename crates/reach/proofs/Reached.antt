@@ -1,0 +1,56 @@
+-- From Setup on the tables are in order, and refusal 3 is never given.
+use Prim.Native.Nat.{ℕ, _<_}
+use mathlib.Core.Path.{_≡_, sym, ap, _∙_}
+use mathlib.Core.Logic.{_≢_}
+use mathlib.Core.List.{List}
+use native.Mathlib.Omega.{arith}
+use lib.ListN.{getD}
+use Rattle.rules.specs.Layout.{planWidth, row}
+use Rattle.rules.specs.Tables.{Tables, Outcome}
+use Rattle.rules.specs.Answers.{ready, refused, kind, number}
+use Rattle.rules.specs.Calls.{Call, Setup, step}
+use Rattle.reach.specs.Reached.{Reached, Never3}
+use Rattle.reach.proofs.Order.{Zero, InOrder}
+use Rattle.reach.proofs.Effects.{Effect, refuses, changes, begins, effect, setup-effect, in-order-run}
+
+-- what answers ready has begun anew
+record Begun (c : Call) (o : Outcome) : Type 0 where
+  start : ℕ
+  plan : List ℕ
+  is : c ≡ Setup start plan
+  in-order : InOrder (o .tables)
+  zeros : (s : ℕ) → Zero (row (o .tables .seats) s)
+  laid : (i : ℕ) → i < planWidth → getD (o .tables .seats) i 0 ≡ getD plan i 0
+
+begun-anew : {t : Tables} {c : Call} (o : Outcome) → Effect t c o → kind (o .answer) ≡ ready → Begun c o
+begun-anew o (refuses n d e) r = absurd (let q : kind (o .answer) ≡ refused = ap (λ (z : Outcome). kind (z .answer)) e in omega arith)
+begun-anew o (changes s low a h ch b told) r = absurd (told .plain r)
+begun-anew o (begins n start plan q e a b z p) r = record { start = start; plan = plan; is = q; in-order = b; zeros = z; laid = p }
+
+module _ (t : Tables) (start : ℕ) (plan : List ℕ) (answered : kind (step t (Setup start plan) .answer) ≡ ready) where
+  pub begun-in-order : InOrder (step t (Setup start plan) .tables)
+  unfolding step
+  begun-in-order = begun-anew _ (setup-effect t start plan) answered .in-order
+
+  pub begun-free : (s : ℕ) → Zero (row (step t (Setup start plan) .tables .seats) s)
+  unfolding step
+  begun-free = begun-anew _ (setup-effect t start plan) answered .zeros
+
+  pub begun-plan : (i : ℕ) → i < planWidth → getD (step t (Setup start plan) .tables .seats) i 0 ≡ getD plan i 0
+  unfolding step
+  begun-plan i l =
+      let b = begun-anew _ (setup-effect t start plan) answered in
+      let e : plan ≡ b .plan = cc (b .is) in
+      b .laid i l ∙ ap (λ (p : List ℕ). getD p i 0) (sym e)
+
+pub reached-in-order : (t : Tables) → Reached t → InOrder t
+reached-in-order t z = rw (z .now) at (in-order-run _ (begun-in-order (z .opening) (z .start) (z .plan) (z .answered)) (z .calls))
+
+fair : {t : Tables} {c : Call} (o : Outcome) → Effect t c o → kind (o .answer) ≡ refused → number (o .answer) ≢ 3
+fair o (refuses n d e) r = λ q. d (sym (ap (λ (z : Outcome). number (z .answer)) e) ∙ q)
+fair o (changes s low a h ch b told) r = told .fair r
+fair o (begins n start plan q e a b z p) r = absurd (let v : kind (o .answer) ≡ ready = ap kind e in omega arith)
+
+-- REFUSAL 3 IS NEVER GIVEN
+pub never-3 : (t : Tables) → Reached t → Never3 t
+never-3 t z c r = fair _ (effect t (reached-in-order t z) c) r

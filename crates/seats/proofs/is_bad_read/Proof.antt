@@ -1,0 +1,30 @@
+use Rattle.rules.specs.Tests.{oneOf}
+use borrow.Author.Tests.{le-leb, lt-leb}
+use Rattle.seats.proofs.is_bad_read.Statement.{statement}
+use Rattle.seats.proofs.is_bad_read.Tie as tie
+use Rattle.seats.proofs.is_bad_read.Reads as reads
+use Rattle.seats.proofs.is_bad_read.Lts as lts
+
+-- src/lib.rt:156:9
+returns : tie.Need-returns
+unfolding oneOf
+returns c = simp (le-leb _ _ (c .if1 .taken))
+
+-- src/lib.rt:152:1
+returns-2 : tie.Need-returns-2
+unfolding oneOf
+returns-2 c = simp (
+  le-leb _ _ (c .if2 .taken),
+  lt-leb _ _ (c .before .if1 .left),
+)
+
+-- src/lib.rt:152:1
+returns-3 : tie.Need-returns-3
+unfolding oneOf
+returns-3 c = simp (
+  lt-leb _ _ (c .if2 .left),
+  lt-leb _ _ (c .before .if1 .left),
+)
+
+pub is-bad-read-spec : {M : Type 1} → statement M
+is-bad-read-spec = tie.close (tie.spec returns returns-2 returns-3)

@@ -1,0 +1,63 @@
+// The numbers of document 01's tables, once for all the code that reads and writes them.
+
+// The sizes.
+pub const MOST_RECORDS: u64 = 1024;
+
+pub const OWNERS: u64 = 16;
+
+pub const SEATS: u64 = 64;
+
+pub const MOST_READS: u64 = 16;
+
+pub const MOST_WRITES: u64 = 8;
+
+// The seat table: shares, limits, then the rows.
+pub const LIMITS_FROM: u64 = 16;
+
+pub const PLAN_WIDTH: u64 = 32;
+
+pub const ROW_WIDTH: u64 = 86;
+
+pub const SEATS_LENGTH: u64 = 5536;
+
+// A row: its head.
+pub const PHASE: u64 = 0;
+
+pub const OWNER: u64 = 1;
+
+pub const POSITION: u64 = 2;
+
+pub const READS: u64 = 3;
+
+pub const WRITES: u64 = 4;
+
+pub const TIME: u64 = 5;
+
+// Its read entries: where the first one's numbers stand, and how far on the next one's do.
+pub const READ_ITEM: u64 = 6;
+
+pub const READ_VALUE: u64 = 7;
+
+pub const KEPT_WRITE: u64 = 8;
+
+pub const KEPT_READ: u64 = 9;
+
+pub const READ_WIDTH: u64 = 4;
+
+// Its write entries, the same way.
+pub const WRITE_ITEM: u64 = 70;
+
+pub const WRITE_VALUE: u64 = 71;
+
+pub const WRITE_WIDTH: u64 = 2;
+
+// The phases.
+pub const FREE: u64 = 0;
+
+pub const WORKING: u64 = 1;
+
+pub const LOCKING: u64 = 2;
+
+pub const CHECKING: u64 = 3;
+
+pub const STORING: u64 = 4;

@@ -1,0 +1,150 @@
+-- How tables, with what the observer has seen, stand to a state of the protocol; and what is to be shown of a call.
+use Prim.Native.Nat.{ℕ, _-_, _≤_, _<_}
+use mathlib.Core.Path.{_≡_, refl, sym, ap, _∙_}
+use mathlib.Core.Logic.{_≢_}
+use mathlib.Core.Bool.{true, false}
+use mathlib.Core.Option.{none, some}
+use mathlib.Core.List.{List, map, List·Memᴰ as In}
+use native.Mathlib.Omega.{arith}
+use native.Mathlib.Decide.{ℕ-discrete}
+use borrow.Author.Tests.{eqb-true}
+use lib.Dec.{eqb}
+use lib.ListN.{length, getD, set, length-set}
+use lib.Seq.{getD-set-same, getD-set-other}
+use Rattle.clock.specs.Word.{isLocked, writeTime, readTime}
+use Rattle.rules.specs.Layout.{row, phase, position, writes, time}
+use Rattle.rules.specs.Tables.{Tables, Outcome, keep, unless}
+use Rattle.rules.specs.Calls.{Call, Setup, Open, Read, Write, Advance, Abandon}
+use Rattle.rules.specs.declared.Answer.the-variants.{Refused}
+use Rattle.rows.specs.Fine.{cond-ind, Sized}
+use Rattle.rows.specs.Changed.{Nudged}
+use Rattle.rows.specs.Becomes.{Becomes}
+use Rattle.serial.specs.Statement.{Transaction, Seen, Observer, Values, changed, seeing, onAdvance, begins, observe, serial}
+use Rattle.serial.specs.Protocol.{Version, Seat, State, Inv, changed-same, changed-other, changed-ind}
+use Rattle.serial.specs.Seal.{told}
+use Rattle.serial.specs.View.{readEntries, writeEntries, view, nudged-writes, nudged-readEntries, nudged-writeEntries}
+
+-- a record's value and word show its version
+pub record Shown (x : Version) (v word : ℕ) : Type 0 where
+  pub is-value : x .value ≡ v
+  pub is-wrote : x .wrote ≡ writeTime word
+  pub is-upTo : x .upTo ≡ readTime word
+  -- a lock has a holder
+  pub idle : isLocked word ≡ false → x .holder ≡ none
+  pub busy : isLocked word ≡ true → (k : ℕ) × (x .holder ≡ some k)
+
+abbrev pub AllShown : (ℕ → Version) → List ℕ → List ℕ → Type 0
+AllShown c values words = (item : ℕ) → item < length words → Shown (c item) (getD values item 0) (getD words item 0)
+
+-- what is seen of a seat is what its row holds
+pub record SeenOk (g : List ℕ) (x : Seen) : Type 0 where
+  pub is-reads : map told (readEntries g) ≡ x .reads
+  pub is-writes : writeEntries g ≡ x .writes
+  pub is-key : 3 ≤ phase g → x .key ≡ time g
+  pub is-left : phase g ≡ 4 → x .left ≡ writes g - position g
+
+-- a nudged row, with what is seen of it
+pub seen-nudged : {g h : List ℕ} {ph p t : ℕ} → Nudged g h ph p t → (x y : Seen) → SeenOk g x → y .reads ≡ x .reads → y .writes ≡ x .writes →
+    (3 ≤ ph → y .key ≡ t) → (ph ≡ 4 → y .left ≡ writes g - p) → SeenOk h y
+seen-nudged {g} {h} n x y o a b key left =
+    let ph = n .is-phase in
+    let po = n .is-position in
+    let wr = nudged-writes n in
+    record {
+      is-reads = ap (map told) (nudged-readEntries n) ∙ o .is-reads ∙ sym a;
+      is-writes = nudged-writeEntries n ∙ o .is-writes ∙ sym b;
+      is-key = λ l. key (omega arith) ∙ sym (n .is-time);
+      is-left = λ e. omega (arith, left (omega arith));
+    }
+
+pub record Agree (t : Tables) (σ : State) (b : Observer) : Type 0 where
+  pub sized : Sized t
+  pub shown : AllShown (σ .version) (t .values) (t .words)
+  pub rows : (k : ℕ) → σ .seat k ≡ view (b .seats k .key) (row (t .seats) k)
+  pub seen : (k : ℕ) → phase (row (t .seats) k) ≢ 0 → SeenOk (row (t .seats) k) (b .seats k)
+  pub order : σ .order ≡ serial (b .sealed)
+  pub by-time : (T : Transaction) → In T (b .sealed) → T .key ≡ T .time
+
+-- some state of the protocol agrees
+pub record Good (opening : Values) (t : Tables) (b : Observer) : Type 0 where
+  pub σ : State
+  pub inv : Inv opening σ
+  pub agree : Agree t σ b
+
+-- WHAT IS TO BE SHOWN of a call, other than a Setup that is answered ready
+abbrev pub Ok : Values → Observer → Call → Outcome → Type 0
+Ok opening b c z = Good opening (z .tables) (observe b c (z .answer))
+
+-- a refusal shows nothing new
+pub refused : (opening : Values) (t : Tables) (b : Observer) → Good opening t b → (c : Call) (why : ℕ) → Ok opening b c (keep t (Refused why))
+unfolding observe begins onAdvance
+refused opening t b g (Setup start plan) why = g
+refused opening t b g (Open o) why = g
+refused opening t b g (Read o s item) why = g
+refused opening t b g (Write o s item v) why = g
+refused opening t b g (Advance o s) why = g
+refused opening t b g (Abandon o s) why = g
+
+pub unless-ok : (opening : Values) (t : Tables) (b : Observer) → Good opening t b → (c : Call) (why : ℕ) (z : Outcome) → (why ≡ 0 → Ok opening b c z) → Ok opening b c (unless why t z)
+unless-ok opening t b g c why z h = cond-ind (Ok opening b c) (eqb why 0) (λ e. h (eqb-true why 0 e)) (λ _. refused opening t b g c why)
+
+-- WHAT IS TO BE SHOWN of a change
+-- one record's value and word change
+pub shown-set : (c : ℕ → Version) (values words values′ : List ℕ) (item word : ℕ) (x : Version) → AllShown c values words →
+    ((j : ℕ) → j ≢ item → getD values′ j 0 ≡ getD values j 0) → item < length words → Shown x (getD values′ item 0) word → AllShown (changed item x c) values′ (set words item word)
+shown-set c values words values′ item word x h other l m =
+    changed-ind (λ j z. j < length (set words item word) → Shown z (getD values′ j 0) (getD (set words item word) j 0)) item x c
+    (λ _. rw (getD-set-same words item word 0 l) m)
+    (λ j n q. rw (other j n, getD-set-other words item j word 0 n) (h j (rw (length-set words item word) at q)))
+
+-- a table of the same lengths
+pub sized-same : {t : Tables} (u : Tables) → Sized t → length (u .values) ≡ length (t .values) → length (u .words) ≡ length (t .words) → length (u .seats) ≡ length (t .seats) → Sized u
+sized-same u z a b c =
+    record {
+      same = a ∙ z .same ∙ sym b;
+      some = let l = z .some in omega arith;
+      few = let l = z .few in omega arith;
+      rows = c ∙ z .rows;
+    }
+
+-- row k becomes g, versions and what is sealed may change; of the other seats it is enough that they agreed
+pub agree-others : (t u : Tables) (σ : State) (b d : Observer) (k : ℕ) →
+    ((j : ℕ) → j ≢ k → σ .seat j ≡ view (b .seats j .key) (row (t .seats) j)) →
+    ((j : ℕ) → phase (row (t .seats) j) ≢ 0 → SeenOk (row (t .seats) j) (b .seats j)) →
+    (S : List Transaction) (c : ℕ → Version) (s : Seat) (g : List ℕ) →
+    Sized u → AllShown c (u .values) (u .words) →
+    Becomes (t .seats) (u .seats) k g →
+    s ≡ view (d .seats k .key) g →
+    (phase g ≢ 0 → SeenOk g (d .seats k)) →
+    ((j : ℕ) → j ≢ k → d .seats j ≡ b .seats j) →
+    S ≡ serial (d .sealed) →
+    ((T : Transaction) → In T (d .sealed) → T .key ≡ T .time) →
+    Agree u (record { order = S; version = c; seat = changed k s (σ .seat) }) d
+agree-others t u σ b d k rows seen S c s g sized shown be v se other o bt =
+    record {
+      sized = sized;
+      shown = shown;
+      rows = changed-ind (λ j z. z ≡ view (d .seats j .key) (row (u .seats) j)) k s (σ .seat) (rw (be .own) v) (λ j n. rw (be .others j n, other j n) (rows j n));
+      seen = λ j. go j (ℕ-discrete j k);
+      order = o;
+      by-time = bt;
+    }
+  where
+    go : (j : ℕ) → Dec (j ≡ k) → phase (row (u .seats) j) ≢ 0 → SeenOk (row (u .seats) j) (d .seats j)
+    go j (yes e) = rw (e, be .own) se
+    go j (no n) = rw (be .others j n, other j n) (seen j)
+
+module _ {t : Tables} {σ : State} {b : Observer} (h : Agree t σ b) (u : Tables) (c : ℕ → Version) (k : ℕ) (s : Seat) (g : List ℕ)
+    (va : length (u .values) ≡ length (t .values)) (wo : length (u .words) ≡ length (t .words)) (shown : AllShown c (u .values) (u .words)) (be : Becomes (t .seats) (u .seats) k g) where
+  -- seat k is seen otherwise
+  pub agree-seeing : (x : Seen) → s ≡ view (x .key) g → (phase g ≢ 0 → SeenOk g x) →
+      Agree u (record { order = σ .order; version = c; seat = changed k s (σ .seat) }) (seeing b k x)
+  agree-seeing x v se =
+      agree-others t u σ b (seeing b k x) k (λ j n. h .rows j) (h .seen) (σ .order) c s g (sized-same u (h .sized) va wo (be .size)) shown be
+      (rw (changed-same k x (b .seats)) v) (rw (changed-same k x (b .seats)) se) (λ j n. changed-other k x (b .seats) j n) (h .order) (h .by-time)
+
+  -- nothing new is seen
+  pub agree-same : s ≡ view (b .seats k .key) g → (phase g ≢ 0 → SeenOk g (b .seats k)) →
+      Agree u (record { order = σ .order; version = c; seat = changed k s (σ .seat) }) b
+  agree-same v se =
+      agree-others t u σ b b k (λ j n. h .rows j) (h .seen) (σ .order) c s g (sized-same u (h .sized) va wo (be .size)) shown be v se (λ j n. refl) (h .order) (h .by-time)

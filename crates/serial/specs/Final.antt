@@ -1,0 +1,64 @@
+-- The protocol's state after Setup, and the run's values where no store is due.
+use Prim.Native.Nat.{ℕ, _≤_, max}
+use mathlib.Core.Path.{_≡_, refl, sym, _∙_}
+use mathlib.Core.Logic.{⊎-elim}
+use mathlib.Core.Option.{Option, none, some}
+use mathlib.Core.List.{List, [], _∷_, List·Memᴰ as In, List·Memᴰ·not-nil as not-nil, List·Memᴰ·cases-cons as uncons}
+use native.Mathlib.Omega.{arith}
+use Rattle.serial.specs.Statement.{Transaction, Values, outcome, Right}
+use Rattle.serial.specs.Order.{Sorted}
+use Rattle.serial.specs.Timeline.{upto, upto-all}
+use Rattle.serial.specs.Protocol.{Due, State, free, Left, none-some, val, Inv, due-left}
+
+-- nothing sealed, every version from the start on, every seat free
+abbrev pub begin : ℕ → Values → State
+begin start opening =
+    record {
+      order = [];
+      version = λ item. record { value = opening item; wrote = start; from = start; upTo = start; holder = none; due = none };
+      seat = λ k. free;
+    }
+
+pub begin-inv : (start : ℕ) (opening : Values) → Inv opening (begin start opening)
+unfolding Sorted Right upto
+begin-inv start opening =
+    record {
+      sorted = tt;
+      right = tt;
+      versions = λ item. record {
+        range = omega arith;
+        wrote-low = omega arith;
+        due-below = λ d e. absurd (none-some {A = Due} none d refl e);
+        due-timed = λ d e. absurd (none-some {A = Due} none d refl e);
+        due-held = λ p. refl;
+        kept = λ u p q. refl;
+        now = λ u p. refl;
+        readers = λ T i. absurd (not-nil i);
+        writers = λ T i. absurd (not-nil i);
+      };
+      seats = λ k. tt;
+      holders = λ item k e. absurd (none-some {A = ℕ} none k refl e);
+    }
+
+-- a key that none is later than
+last : List Transaction → ℕ
+last [] = 0
+last (T ∷ S) = max (T .key) (last S)
+
+last-is : (S : List Transaction) (U : Transaction) → In U S → U .key ≤ last S
+unfolding last
+last-is [] U i = absurd (not-nil i)
+last-is (T ∷ S) U i =
+    ⊎-elim (λ (e : U ≡ T). rw e (omega arith)) (λ (j : In U S). let h = last-is S U j in omega arith) (uncons i)
+
+-- WITH NO STORE LEFT, the versions have the values that the run comes to
+pub inv-final : (opening : Values) (σ : State) → Inv opening σ → ((k item : ℕ) → Left (σ .seat k) item → ⊥) → (item : ℕ) → outcome (σ .order) opening item ≡ σ .version item .value
+inv-final opening σ h n item =
+    sym (upto-all u (σ .order) opening item (λ U i. let l = last-is (σ .order) U i in omega arith)) ∙ go (σ .version item .due) refl
+  where
+    u : ℕ
+    u = max (σ .version item .from) (last (σ .order))
+
+    go : (o : Option Due) → σ .version item .due ≡ o → val opening (σ .order) item u ≡ σ .version item .value
+    go none e = h .versions item .now u (rw e (omega arith)) ∙ rw e refl
+    go (some d) e = let l = due-left opening σ h item d e in absurd (n (l .0) item (l .1))

@@ -1,0 +1,9 @@
+-- Laws that more than one function's proof rests on.
+pub mod Copies
+pub mod Lending
+pub mod Turning
+pub mod Running
+pub mod Wholes
+pub mod Moved
+pub mod Room
+pub mod Stream

@@ -1,0 +1,137 @@
+-- `tape::absorb` meets its contract. Assumes nothing.
+use Prim.Native.Nat.{ℕ, _+_, _-_, _≤_}
+use native.Mathlib.Omega.{arith}
+use mathlib.Core.Path.{_≡_, refl, sym, ap, _∙_}
+use mathlib.Core.Bool.{true, false, true≢false}
+use mathlib.Core.List.{List}
+use denote.Ref.{now}
+use lib.ListN.{length, take, drop}
+use lib.Seq.{length-take-le, paste}
+use Rattle.rules.specs.Tables.{tables}
+use Rattle.tape.specs.Turns.{stateOf}
+use Rattle.tape.proofs.Room.{Fit, fit, room, took}
+use Rattle.tape.proofs.Moved.{shift-front}
+use borrow.Author.Needs.{needs}
+use Rattle.tape.proofs.absorb.Statement.{statement}
+use Rattle.tape.proofs.absorb.Tie as tie
+
+is-unfit-requires : tie.Need-is-unfit-requires
+is-unfit-requires c κs = search needs
+
+returns : tie.Need-returns
+returns c =
+    let bad = sym (c .before .is-unfit .ensures) ∙ c .if1 .taken in
+    record {
+      room = omega arith;
+      done = λ e. absurd (true≢false (sym bad ∙ e));
+      moved = λ e. absurd (true≢false (sym bad ∙ e));
+      refused = λ _. (refl, refl, refl, refl);
+    }
+
+slice-reshare-prefix-feed : tie.Need-slice-reshare-prefix-feed
+slice-reshare-prefix-feed c =
+    let a = c .before .before .before .before .before .before .before .args in
+    let good = sym (c .before .is-unfit .ensures) ∙ c .if1 .left in
+    let g = fit (length (now (a .buf))) (a .to) (a .k) (length (now (a .values))) (length (now (a .words))) (length (now (a .out))) good in
+    let n : length (take (a .to) (now (a .buf))) ≡ a .to = length-take-le (a .to) (now (a .buf)) (g .inside) in
+    omega (arith, g .inside)
+
+slice-aggregate-feed : tie.Need-slice-aggregate-feed
+slice-aggregate-feed c =
+    let a = c .before .before .before .before .before .before .before .before .args in
+    let good = sym (c .before .before .is-unfit .ensures) ∙ c .before .if1 .left in
+    let g = fit (length (now (a .buf))) (a .to) (a .k) (length (now (a .values))) (length (now (a .words))) (length (now (a .out))) good in
+    let n : length (take (a .to) (now (a .buf))) ≡ a .to = length-take-le (a .to) (now (a .buf)) (g .inside) in
+    sym n
+
+feed-requires : tie.Need-feed-requires
+feed-requires c κs =
+    let a = c .before .before .before .before .before .before .before .before .before .before .before .before .args in
+    let good = sym (c .before .before .before .before .before .before .is-unfit .ensures) ∙ c .before .before .before .before .before .if1 .left in
+    let g = fit (length (now (a .buf))) (a .to) (a .k) (length (now (a .values))) (length (now (a .words))) (length (now (a .out))) good in
+    let n : length (take (a .to) (now (a .buf))) ≡ a .to = length-take-le (a .to) (now (a .buf)) (g .inside) in (
+      omega (arith, g .offset, g .roomy),
+      omega (arith, g .calls, g .roomy),
+      g .records,
+      g .values-are,
+      g .words-are,
+    )
+
+shift-requires : tie.Need-shift-requires
+shift-requires c κs =
+    let a = c .before .before .before .before .before .before .before .before .before .before .before .before .before .before .before .before .before .before .before .before .before .before .args in
+    let good = sym (c .before .before .before .before .before .before .before .before .before .before .before .before .before .before .before .before .is-unfit .ensures) ∙ c .before .before .before .before .before .before .before .before .before .before .before .before .before .before .before .if1 .left in
+    let g = fit (length (now (a .buf))) (a .to) (a .k) (length (now (a .values))) (length (now (a .words))) (length (now (a .out))) good in
+    let n : length (take (a .to) (now (a .buf))) ≡ a .to = length-take-le (a .to) (now (a .buf)) (g .inside) in
+    omega (arith, c .before .before .before .before .before .before .before .before .before .feed .ensures .used, g .inside)
+
+sub-t11 : tie.Need-sub-t11
+sub-t11 c =
+    let a = c .before .before .before .before .before .before .before .before .before .before .before .before .before .before .before .before .before .before .before .before .before .before .before .before .before .args in
+    let good = sym (c .before .before .before .before .before .before .before .before .before .before .before .before .before .before .before .before .before .before .before .is-unfit .ensures) ∙ c .before .before .before .before .before .before .before .before .before .before .before .before .before .before .before .before .before .before .if1 .left in
+    let g = fit (length (now (a .buf))) (a .to) (a .k) (length (now (a .values))) (length (now (a .words))) (length (now (a .out))) good in
+    let n : length (take (a .to) (now (a .buf))) ≡ a .to = length-take-le (a .to) (now (a .buf)) (g .inside) in
+    omega (arith, c .before .before .before .before .before .before .before .before .before .before .before .before .feed .ensures .used)
+
+add-t29 : tie.Need-add-t29
+add-t29 c =
+    let a = c .before .before .before .before .before .before .before .before .before .before .before .before .before .before .before .before .before .before .before .before .before .before .before .before .before .before .args in
+    let good = sym (c .before .before .before .before .before .before .before .before .before .before .before .before .before .before .before .before .before .before .before .before .is-unfit .ensures) ∙ c .before .before .before .before .before .before .before .before .before .before .before .before .before .before .before .before .before .before .before .if1 .left in
+    let g = fit (length (now (a .buf))) (a .to) (a .k) (length (now (a .values))) (length (now (a .words))) (length (now (a .out))) good in
+    let n : length (take (a .to) (now (a .buf))) ≡ a .to = length-take-le (a .to) (now (a .buf)) (g .inside) in
+    omega (arith, c .before .before .before .before .before .before .before .before .before .before .before .before .before .feed .ensures .used, g .offset, g .roomy, c .before .before .before .before .before .before .before .before .before .before .before .before .before .before .before .before .before .before .before .before .before .before .before .before .before .before .good)
+
+same-length : tie.Need-same-length
+same-length c = search needs
+
+same-length-2 : tie.Need-same-length-2
+same-length-2 c = search needs
+
+same-length-3 : tie.Need-same-length-3
+same-length-3 c = search needs
+
+same-length-4 : tie.Need-same-length-4
+same-length-4 c = search needs
+
+same-length-5 : tie.Need-same-length-5
+same-length-5 c = search needs
+
+returns-2 : tie.Need-returns-2
+returns-2 c =
+    let a = c .before .before .before .before .before .before .before .before .before .before .before .before .before .before .before .before .before .before .before .before .before .before .before .before .before .before .args in
+    let good = sym (c .before .before .before .before .before .before .before .before .before .before .before .before .before .before .before .before .before .before .before .before .is-unfit .ensures) ∙ c .before .before .before .before .before .before .before .before .before .before .before .before .before .before .before .before .before .before .before .if1 .left in
+    let g = fit (length (now (a .buf))) (a .to) (a .k) (length (now (a .values))) (length (now (a .words))) (length (now (a .out))) good in
+    let n : length (take (a .to) (now (a .buf))) ≡ a .to = length-take-le (a .to) (now (a .buf)) (g .inside) in
+    let r = c .before .before .before .before .before .before .before .before .before .before .before .before .before .feed .result in
+    let d = c .before .before .before .before .before .before .before .before .before .before .before .before .before .feed .ensures in
+    let u : r .used ≤ a .to = omega (arith, d .used) in
+    let s = stateOf (a .k) (tables (now (a .values)) (now (a .words)) (now (a .seats))) in
+    let back : a .to - (a .to - r .used) ≡ r .used = omega arith in
+    record {
+      room = omega arith;
+      done = λ _.
+          took _ (take (a .to) (now (a .buf))) (a .k) (now (a .out)) r _ _ _ _ (rw n at d)
+          (omega (arith, room (a .to) s (take (a .to) (now (a .buf))) (omega arith), g .roomy)) (omega (arith, c .before .before .before .before .before .before .before .before .before .before .before .before .before .before .before .before .before .before .before .before .before .before .before .before .before .before .good))
+          (ap (λ (b : List ℕ). take (a .to - r .used) b) (c .before .before .before .shift .ensures) ∙ shift-front (now (a .buf)) (r .used) (a .to) u (g .inside));
+      moved = λ _. rw back (c .before .before .before .shift .ensures);
+      refused = λ e. absurd (true≢false (sym e ∙ good));
+    }
+
+pub absorb-spec : {M : Type 1} → statement M
+absorb-spec =
+    tie.close
+    (tie.spec
+    is-unfit-requires
+    returns
+    slice-reshare-prefix-feed
+    slice-aggregate-feed
+    feed-requires
+    shift-requires
+    sub-t11
+    add-t29
+    same-length
+    same-length-2
+    same-length-3
+    same-length-4
+    same-length-5
+    returns-2)

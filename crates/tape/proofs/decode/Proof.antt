@@ -1,0 +1,23 @@
+-- `tape::decode` meets its contract. Assumes nothing.
+use borrow.Author.Tests.{lt-ltb, le-ltb}
+use Rattle.tape.specs.Decode.{decoded}
+use borrow.Author.Needs.{needs}
+use Rattle.tape.proofs.decode.Statement.{statement}
+use Rattle.tape.proofs.decode.Tie as tie
+
+shared-slice-read-by-kind : tie.Need-shared-slice-read-by-kind
+shared-slice-read-by-kind c = search needs
+
+by-kind-requires : tie.Need-by-kind-requires
+by-kind-requires c κs = search needs
+
+returns : tie.Need-returns
+unfolding decoded
+returns c = simp (lt-ltb _ _ (c .before .before .if1 .taken)) (c .by-kind .ensures)
+
+returns-2 : tie.Need-returns-2
+unfolding decoded
+returns-2 c = simp (le-ltb _ _ (c .if1 .left))
+
+pub decode-spec : {M : Type 1} → statement M
+decode-spec = tie.close (tie.spec shared-slice-read-by-kind by-kind-requires returns returns-2)

@@ -1,0 +1,20 @@
+-- `tape::open_of` meets its contract. Assumes nothing.
+use borrow.Author.Tests.{eq-eqb, ne-eqb}
+use borrow.Author.Needs.{needs}
+use Rattle.tape.proofs.open_of.Statement.{statement}
+use Rattle.tape.proofs.open_of.Tie as tie
+
+shared-slice-read-wide : tie.Need-shared-slice-read-wide
+shared-slice-read-wide c = search needs
+
+wide-requires : tie.Need-wide-requires
+wide-requires c κs = search needs
+
+returns : tie.Need-returns
+returns c = simp (eq-eqb _ _ (c .before .before .if1 .taken)) (cc)
+
+returns-2 : tie.Need-returns-2
+returns-2 c = simp (ne-eqb _ _ (c .if1 .left))
+
+pub open-of-spec : {M : Type 1} → statement M
+open-of-spec = tie.close (tie.spec shared-slice-read-wide wide-requires returns returns-2)

@@ -1,0 +1,68 @@
+-- A call on the tape: a two-byte length of what follows, a kind byte, then fields, all big-endian.
+use Prim.Native.Nat.{ℕ, _+_, _*_, _-_}
+use mathlib.Core.Bool.{cond}
+use mathlib.Core.List.{List}
+use lib.Dec.{ltb, leb, eqb}
+use lib.ListN.{length, getD}
+use Rattle.tape.specs.declared.Call.{Call}
+use Rattle.tape.specs.declared.Call.the-variants.{Setup, Open, Read, Write, Advance, Abandon}
+use Rattle.tape.specs.declared.Decoded.{Decoded}
+use Rattle.tape.specs.declared.Decoded.the-variants.{Whole, Unknown, Misfit}
+use Rattle.tape.specs.declared.Frame.{Frame}
+use Rattle.tape.specs.declared.Frame.the-variants.{Nothing, Short, Body}
+
+-- big-endian numbers of 2, 4 and 8 bytes from place i on
+abbrev pub be16 : List ℕ → ℕ → ℕ
+be16 b i = getD b i 0 * 256 + getD b (i + 1) 0
+
+abbrev pub be32 : List ℕ → ℕ → ℕ
+be32 b i = be16 b i * 65536 + be16 b (i + 2)
+
+abbrev pub be64 : List ℕ → ℕ → ℕ
+be64 b i = be32 b i * 4294967296 + be32 b (i + 4)
+
+-- what stands at the start of the rest of a tape: nothing, a call that is cut short, or a length and that many bytes
+unfoldable pub frameOf : List ℕ → Frame
+frameOf t =
+    cond (ltb 0 (length t))
+    (cond (ltb (length t) 2) Short (cond (leb (be16 t 0) (length t - 2)) (Body (be16 t 0)) Short))
+    Nothing
+
+-- the bytes of each kind's body, its kind byte counted
+abbrev pub setupSize : ℕ
+setupSize = 43
+
+abbrev pub openSize : ℕ
+openSize = 2
+
+abbrev pub readSize : ℕ
+readSize = 5
+
+abbrev pub writeSize : ℕ
+writeSize = 13
+
+abbrev pub seatSize : ℕ
+seatSize = 3
+
+-- where Setup's sixteen shares and sixteen limits stand
+abbrev pub planFrom : ℕ
+planFrom = 11
+
+-- the call c, of a body that must have n bytes: otherwise 33
+abbrev pub sized : ℕ → List ℕ → Call → Decoded
+sized n b c = cond (eqb (length b) n) (Whole c) Misfit
+
+-- a body by its kind; 34 where the kind is unknown
+unfoldable pub byKind : ℕ → List ℕ → Decoded
+byKind k b =
+    cond (eqb k 0) (sized setupSize b (Setup (be16 b 1) (be64 b 3)))
+    (cond (eqb k 1) (sized openSize b (Open (getD b 1 0)))
+    (cond (eqb k 2) (sized readSize b (Read (getD b 1 0) (getD b 2 0) (be16 b 3)))
+    (cond (eqb k 3) (sized writeSize b (Write (getD b 1 0) (getD b 2 0) (be16 b 3) (be64 b 5)))
+    (cond (eqb k 4) (sized seatSize b (Advance (getD b 1 0) (getD b 2 0)))
+    (cond (eqb k 5) (sized seatSize b (Abandon (getD b 1 0) (getD b 2 0)))
+    Unknown)))))
+
+-- a body: the call, or the fault. A length of 0 is 33
+unfoldable pub decoded : List ℕ → Decoded
+decoded b = cond (ltb 0 (length b)) (byKind (getD b 0 0) b) Misfit

@@ -1,0 +1,672 @@
+// Tapes: bytes to calls, calls to lines; one turn, a run over a part, and the whole.
+ghost use mathlib.Core.Path.{_≡_};
+ghost use Prim.Native.Nat.{_+_, _-_, _≤_, _<_, _^_};
+ghost use lib.ListN.{length, getD, take, drop};
+ghost use lib.Seq.{paste};
+ghost use Rattle.text.specs.Text.{Appended};
+ghost use Rattle.rules.specs.Layout.{mostRecords, planWidth, seatsLength};
+ghost use Rattle.rules.specs.Tables.{tables, after};
+ghost use Rattle.tape.specs.Lines.{lineOf, performed, PlanFits, recordsAfter, callTurn, turnOf, fed, endLine, callLines, linesOf};
+ghost use Rattle.tape.specs.declared.Decoded.the-variants.{Whole};
+ghost use Rattle.tape.specs.Turns.{stateOf, Taken, capped, Ran, Closed, Passed, Written, unfit, Absorbed};
+ghost use Rattle.tape.specs.Decode.{be16 as be16Of, be32 as be32Of, be64 as be64Of, frameOf, decoded, byKind, sized, planFrom, setupSize, openSize, readSize, writeSize, seatSize};
+use rules::Answer;
+
+// What stands at the start of the rest of a tape.
+pub enum Frame {
+    Nothing,
+    // Cut short: more bytes are wanted.
+    Short,
+    // A body of this many bytes, behind its length.
+    Body(usize),
+}
+
+// A call on the tape. A Setup's plan stays in its body.
+pub enum Call {
+    Setup {
+        count: u64,
+        start: u64,
+    },
+    Open(u64),
+    Read {
+        owner: u64,
+        seat: u64,
+        item: u64,
+    },
+    Write {
+        owner: u64,
+        seat: u64,
+        item: u64,
+        value: u64,
+    },
+    Advance {
+        owner: u64,
+        seat: u64,
+    },
+    Abandon {
+        owner: u64,
+        seat: u64,
+    },
+}
+
+pub enum Decoded {
+    Whole(Call),
+    // A kind that is not known: 34.
+    Unknown,
+    // Another length than the kind has: 33.
+    Misfit,
+}
+
+// What is kept from call to call beside the tables: the calls so far, the offset of the next, and the records that Setup gave.
+pub struct Tally {
+    pub calls: u64,
+    pub offset: u64,
+    pub records: u64,
+}
+
+// One turn at the rest of a tape.
+pub enum Turn {
+    // More bytes are wanted.
+    Wait,
+    // A call was answered: the bytes that it took, its line's length, and the records lent from now on.
+    Said {
+        used: usize,
+        len: usize,
+        records: u64,
+    },
+    // The tape is stopped, with a line of this length.
+    Stop {
+        len: usize,
+    },
+}
+
+// How far a run came: the bytes that it took, the calls so far, the records lent, where the text ends, and whether the tape is stopped.
+pub struct Progress {
+    pub used: usize,
+    pub calls: u64,
+    pub records: u64,
+    pub end: usize,
+    pub stopped: bool,
+}
+
+// What is kept from one part of a tape to the next: the bytes that wait at the buffer's front, the tally, where the text ends, and
+// whether the tape is stopped.
+pub struct Flow {
+    pub waiting: usize,
+    pub calls: u64,
+    pub offset: u64,
+    pub records: u64,
+    pub end: usize,
+    pub stopped: bool,
+}
+
+const VERSION: u8 = 1;
+
+// The bytes of each kind's body, its kind byte counted.
+const SETUP_SIZE: usize = 43;
+
+const OPEN_SIZE: usize = 2;
+
+const READ_SIZE: usize = 5;
+
+const WRITE_SIZE: usize = 13;
+
+const SEAT_SIZE: usize = 3;
+
+fn wide(x: u8) -> u64
+    ensures { λ r. ⌜ (r ≡ x) × (r < 256) ⌝ }
+{
+    x as u64
+}
+
+fn be16(b: &[u8], i: usize) -> u64
+    requires { ⌜ i + 2 ≤ length (now b) ⌝ }
+    ensures { λ r. ⌜ (r ≡ be16Of (now (b .entry)) i) × (r < 65536) ⌝ }
+{
+    let h = wide(b[i]);
+    let l = wide(b[i + 1]);
+    h * 256 + l
+}
+
+fn be32(b: &[u8], i: usize) -> u64
+    requires { ⌜ i + 4 ≤ length (now b) ⌝ }
+    ensures { λ r. ⌜ (r ≡ be32Of (now (b .entry)) i) × (r < 2 ^ 32) ⌝ }
+{
+    let h = be16(b, i);
+    let l = be16(b, i + 2);
+    h * 65536 + l
+}
+
+fn be64(b: &[u8], i: usize) -> u64
+    requires { ⌜ i + 8 ≤ length (now b) ⌝ }
+    ensures { λ r. ⌜ r ≡ be64Of (now (b .entry)) i ⌝ }
+{
+    let h = be32(b, i);
+    let l = be32(b, i + 4);
+    h * 4294967296 + l
+}
+
+pub fn split(t: &[u8]) -> Frame
+    ensures { λ r. ⌜ r ≡ frameOf (now (t .entry)) ⌝ }
+{
+    if 0 < t.len() {
+        if t.len() < 2 {
+            return Frame::Short;
+        }
+        let n = be16(t, 0) as usize;
+        if n <= t.len() - 2 {
+            return Frame::Body(n);
+        }
+        return Frame::Short;
+    }
+    Frame::Nothing
+}
+
+// The call that a body is, or its fault.
+pub fn decode(b: &[u8]) -> Decoded
+    ensures { λ r. ⌜ r ≡ decoded (now (b .entry)) ⌝ }
+{
+    if 0 < b.len() {
+        return by_kind(b, b[0]);
+    }
+    Decoded::Misfit
+}
+
+fn by_kind(b: &[u8], kind: u8) -> Decoded
+    ensures { λ r. ⌜ r ≡ byKind kind (now (b .entry)) ⌝ }
+{
+    match kind {
+        0 => setup_of(b),
+        1 => open_of(b),
+        2 => read_of(b),
+        3 => write_of(b),
+        4 => advance_of(b),
+        5 => abandon_of(b),
+        _ => Decoded::Unknown,
+    }
+}
+
+fn setup_of(b: &[u8]) -> Decoded
+    ensures { λ r. ⌜ r ≡ sized setupSize (now (b .entry)) (Call.Setup (be16Of (now (b .entry)) 1) (be64Of (now (b .entry)) 3)) ⌝ }
+{
+    if b.len() == SETUP_SIZE {
+        return Decoded::Whole(Call::Setup {
+            count: be16(b, 1),
+            start: be64(b, 3),
+        });
+    }
+    Decoded::Misfit
+}
+
+fn open_of(b: &[u8]) -> Decoded
+    ensures { λ r. ⌜ r ≡ sized openSize (now (b .entry)) (Call.Open (getD (now (b .entry)) 1 0)) ⌝ }
+{
+    if b.len() == OPEN_SIZE {
+        return Decoded::Whole(Call::Open(wide(b[1])));
+    }
+    Decoded::Misfit
+}
+
+fn read_of(b: &[u8]) -> Decoded
+    ensures { λ r. ⌜ r ≡ sized readSize (now (b .entry)) (Call.Read (getD (now (b .entry)) 1 0) (getD (now (b .entry)) 2 0) (be16Of (now (b .entry)) 3)) ⌝ }
+{
+    if b.len() == READ_SIZE {
+        return Decoded::Whole(Call::Read {
+            owner: wide(b[1]),
+            seat: wide(b[2]),
+            item: be16(b, 3),
+        });
+    }
+    Decoded::Misfit
+}
+
+fn write_of(b: &[u8]) -> Decoded
+    ensures { λ r. ⌜ r ≡ sized writeSize (now (b .entry)) (Call.Write (getD (now (b .entry)) 1 0) (getD (now (b .entry)) 2 0) (be16Of (now (b .entry)) 3) (be64Of (now (b .entry)) 5)) ⌝ }
+{
+    if b.len() == WRITE_SIZE {
+        return Decoded::Whole(Call::Write {
+            owner: wide(b[1]),
+            seat: wide(b[2]),
+            item: be16(b, 3),
+            value: be64(b, 5),
+        });
+    }
+    Decoded::Misfit
+}
+
+fn advance_of(b: &[u8]) -> Decoded
+    ensures { λ r. ⌜ r ≡ sized seatSize (now (b .entry)) (Call.Advance (getD (now (b .entry)) 1 0) (getD (now (b .entry)) 2 0)) ⌝ }
+{
+    if b.len() == SEAT_SIZE {
+        return Decoded::Whole(Call::Advance {
+            owner: wide(b[1]),
+            seat: wide(b[2]),
+        });
+    }
+    Decoded::Misfit
+}
+
+fn abandon_of(b: &[u8]) -> Decoded
+    ensures { λ r. ⌜ r ≡ sized seatSize (now (b .entry)) (Call.Abandon (getD (now (b .entry)) 1 0) (getD (now (b .entry)) 2 0)) ⌝ }
+{
+    if b.len() == SEAT_SIZE {
+        return Decoded::Whole(Call::Abandon {
+            owner: wide(b[1]),
+            seat: wide(b[2]),
+        });
+    }
+    Decoded::Misfit
+}
+
+// One line for an answer.
+fn say(out: &mut [u8], at: usize, n: u64, a: Answer) -> usize
+    ensures { λ r. ⌜ Appended (now (out .entry)) at (lineOf n a) r (now (out .exit)) ⌝ }
+{
+    let word = answers::spell(a);
+    let letters = word.letters;
+    let len = word.len;
+    text::numbered(out, at, n, &letters[..len], answers::number_of(a))
+}
+
+const PLAN_FROM: usize = 11;
+
+const PLAN_WIDTH: usize = 32;
+
+// The sixteen shares and sixteen limits of a Setup's body.
+fn plan_of(b: &[u8]) -> [u64; 32]
+    requires { ⌜ length (now b) ≡ setupSize ⌝ }
+    ensures { λ r. ⌜ r ≡ take planWidth (drop planFrom (now (b .entry))) ⌝ }
+{
+    let mut plan = [0u64; 32];
+    let mut i = 0;
+    while i < PLAN_WIDTH {
+        plan[i] = wide(b[PLAN_FROM + i]);
+        i += 1;
+    }
+    plan
+}
+
+const MOST_RECORDS: u64 = 1024;
+
+// The number of the word that a Setup which succeeds is answered with.
+const READY: u64 = 0;
+
+// Numbers beyond this are too near the end of 64 bits to count on: 2^62.
+const FAR_OFF: u64 = 4611686018427387904;
+
+// Setup, as the tape allows it: once, and of at most 1024 records.
+fn set_up(
+    count: u64,
+    start: u64,
+    b: &[u8],
+    records: u64,
+    values: &[u64],
+    words: &mut [u64],
+    seats: &mut [u64],
+) -> Answer
+    requires { ⌜ (length (now b) ≡ setupSize) × (length (now values) ≡ mostRecords) × (length (now words) ≡ mostRecords) ⌝ }
+    ensures { λ r. ⌜ after r (now (values .entry)) (now (words .exit)) (now (seats .exit)) ≡ performed records (tables (now (values .entry)) (now (words .entry)) (now (seats .entry))) (Call.Setup count start) (now (b .entry)) ⌝ }
+{
+    if 0 < records {
+        return Answer::Refused(35);
+    }
+    if MOST_RECORDS < count {
+        return Answer::Refused(1);
+    }
+    let plan = plan_of(b);
+    let n = count as usize;
+    plan::setup(&values[..n], &mut words[..n], seats, start, &plan)
+}
+
+// One call on the program's tables, of which it is lent what Setup gave.
+fn perform(
+    c: Call,
+    b: &[u8],
+    records: u64,
+    values: &mut [u64],
+    words: &mut [u64],
+    seats: &mut [u64],
+) -> Answer
+    requires { ⌜ (PlanFits c (now b)) × (records ≤ mostRecords) × (length (now values) ≡ mostRecords) × (length (now words) ≡ mostRecords) ⌝ }
+    ensures { λ r. ⌜ after r (now (values .exit)) (now (words .exit)) (now (seats .exit)) ≡ performed records (tables (now (values .entry)) (now (words .entry)) (now (seats .entry))) c (now (b .entry)) ⌝ }
+{
+    let n = records as usize;
+    match c {
+        Call::Setup { count, start } => set_up(count, start, b, records, values, words, seats),
+        Call::Open(owner) => plan::open(&values[..n], &words[..n], seats, owner),
+        Call::Read { owner, seat, item } => engine::read(
+            &values[..n],
+            &words[..n],
+            seats,
+            owner,
+            seat,
+            item,
+        ),
+        Call::Write {
+            owner,
+            seat,
+            item,
+            value,
+        } => engine::write(&values[..n], &words[..n], seats, owner, seat, item, value),
+        Call::Advance { owner, seat } => engine::advance(
+            &mut values[..n],
+            &mut words[..n],
+            seats,
+            owner,
+            seat,
+        ),
+        Call::Abandon { owner, seat } => engine::abandon(
+            &values[..n],
+            &mut words[..n],
+            seats,
+            owner,
+            seat,
+        ),
+    }
+}
+
+// The records that are lent from now on.
+fn records_after(c: Call, a: Answer, records: u64) -> u64
+    ensures { λ r. ⌜ r ≡ recordsAfter records c a ⌝ }
+{
+    match c {
+        Call::Setup { count, start: _ } => {
+            if answers::kind_of(a) == READY {
+                count
+            } else {
+                records
+            }
+        }
+        Call::Open(_) => records,
+        Call::Read {
+            owner: _,
+            seat: _,
+            item: _,
+        } => records,
+        Call::Write {
+            owner: _,
+            seat: _,
+            item: _,
+            value: _,
+        } => records,
+        Call::Advance { owner: _, seat: _ } => records,
+        Call::Abandon { owner: _, seat: _ } => records,
+    }
+}
+
+// Answers a call whose body is b, and puts its line at `at`.
+fn call_turn(
+    c: Call,
+    b: &[u8],
+    k: Tally,
+    values: &mut [u64],
+    words: &mut [u64],
+    seats: &mut [u64],
+    out: &mut [u8],
+    at: usize,
+) -> Turn
+    requires { ⌜ (PlanFits c (now b)) × (length (now b) < 65536) × (k .calls + 1 < 2 ^ 64) × (k .records ≤ mostRecords) × (length (now values) ≡ mostRecords) × (length (now words) ≡ mostRecords) ⌝ }
+    ensures { λ r. ⌜ Taken (callTurn (stateOf k (tables (now (values .entry)) (now (words .entry)) (now (seats .entry)))) (now (b .entry)) (Whole c)) (tables (now (values .entry)) (now (words .entry)) (now (seats .entry))) (now (out .entry)) at r (tables (now (values .exit)) (now (words .exit)) (now (seats .exit))) (now (out .exit)) ⌝ }
+{
+    let a = perform(c, b, k.records, values, words, seats);
+    let len = say(out, at, k.calls + 1, a);
+    let records = records_after(c, a, k.records);
+    Turn::Said {
+        used: 2 + b.len(),
+        len,
+        records,
+    }
+}
+
+// Takes the turn of a body: a call, or a fault that stops the tape.
+fn body_turn(
+    b: &[u8],
+    k: Tally,
+    values: &mut [u64],
+    words: &mut [u64],
+    seats: &mut [u64],
+    out: &mut [u8],
+    at: usize,
+) -> Turn
+    requires { ⌜ (length (now b) < 65536) × (k .calls + 1 < 2 ^ 64) × (k .records ≤ mostRecords) × (length (now values) ≡ mostRecords) × (length (now words) ≡ mostRecords) ⌝ }
+    ensures { λ r. ⌜ Taken (callTurn (stateOf k (tables (now (values .entry)) (now (words .entry)) (now (seats .entry)))) (now (b .entry)) (decoded (now (b .entry)))) (tables (now (values .entry)) (now (words .entry)) (now (seats .entry))) (now (out .entry)) at r (tables (now (values .exit)) (now (words .exit)) (now (seats .exit))) (now (out .exit)) ⌝ }
+{
+    let d = decode(b);
+    match d {
+        Decoded::Whole(c) => call_turn(c, b, k, values, words, seats, out, at),
+        Decoded::Unknown => Turn::Stop {
+            len: text::last(out, at, b"stopped 34", k.offset),
+        },
+        Decoded::Misfit => Turn::Stop {
+            len: text::last(out, at, b"stopped 33", k.offset),
+        },
+    }
+}
+
+// Takes the turn at the start of the rest of a tape.
+fn take_turn(
+    t: &[u8],
+    k: Tally,
+    values: &mut [u64],
+    words: &mut [u64],
+    seats: &mut [u64],
+    out: &mut [u8],
+    at: usize,
+) -> Turn
+    requires { ⌜ (k .calls + 1 < 2 ^ 64) × (k .records ≤ mostRecords) × (length (now values) ≡ mostRecords) × (length (now words) ≡ mostRecords) ⌝ }
+    ensures { λ r. ⌜ Taken (turnOf (stateOf k (tables (now (values .entry)) (now (words .entry)) (now (seats .entry)))) (now (t .entry))) (tables (now (values .entry)) (now (words .entry)) (now (seats .entry))) (now (out .entry)) at r (tables (now (values .exit)) (now (words .exit)) (now (seats .exit))) (now (out .exit)) ⌝ }
+{
+    let f = split(t);
+    match f {
+        Frame::Body(n) => body_turn(&t[2..2 + n], k, values, words, seats, out, at),
+        Frame::Short => Turn::Wait,
+        Frame::Nothing => Turn::Wait,
+    }
+}
+
+// A sum that stops at the greatest number: a text that long does not fit any buffer.
+fn sum(a: usize, b: usize) -> usize
+    ensures { λ r. ⌜ r ≡ capped a b ⌝ }
+{
+    if b <= 18446744073709551615 - a {
+        return a + b;
+    }
+    18446744073709551615
+}
+
+// Takes every whole call of a part of a tape, and puts the lines into out from `from` on.
+fn feed(
+    part: &[u8],
+    k: Tally,
+    values: &mut [u64],
+    words: &mut [u64],
+    seats: &mut [u64],
+    out: &mut [u8],
+    from: usize,
+) -> Progress
+    requires { ⌜ (k .offset + length (now part) < 2 ^ 64) × (k .calls + length (now part) < 2 ^ 64) × (k .records ≤ mostRecords) × (length (now values) ≡ mostRecords) × (length (now words) ≡ mostRecords) ⌝ }
+    ensures { λ r. ⌜ Ran (fed (length (now (part .entry))) (stateOf k (tables (now (values .entry)) (now (words .entry)) (now (seats .entry)))) (now (part .entry))) (now (part .entry)) (k .offset) from (now (out .entry)) r (tables (now (values .exit)) (now (words .exit)) (now (seats .exit))) (now (out .exit)) ⌝ }
+{
+    let base = k.offset;
+    let mut used = 0;
+    let mut calls = k.calls;
+    let mut records = k.records;
+    let mut end = from;
+    while used < part.len() {
+        let here = Tally {
+            calls,
+            offset: base + used as u64,
+            records,
+        };
+        let t = take_turn(&part[used..], here, values, words, seats, out, end);
+        match t {
+            Turn::Wait => {
+                return Progress {
+                    used,
+                    calls,
+                    records,
+                    end,
+                    stopped: false,
+                };
+            }
+            Turn::Stop { len } => {
+                return Progress {
+                    used,
+                    calls,
+                    records,
+                    end: sum(end, len),
+                    stopped: true,
+                };
+            }
+            Turn::Said {
+                used: taken,
+                len,
+                records: lent,
+            } => {
+                used += taken;
+                calls += 1;
+                records = lent;
+                end = sum(end, len);
+            }
+        }
+    }
+    Progress {
+        used,
+        calls,
+        records,
+        end,
+        stopped: false,
+    }
+}
+
+// The last line of a tape that no call stopped: all of it was read, or a call is cut short.
+pub fn finish(out: &mut [u8], at: usize, whole: bool, calls: u64, offset: u64) -> usize
+    ensures { λ r. ⌜ Closed (now (out .entry)) at (endLine whole calls offset) r (now (out .exit)) ⌝ }
+{
+    if whole {
+        let len = text::last(out, at, b"end", calls);
+        return sum(at, len);
+    }
+    let len = text::last(out, at, b"stopped 32", offset);
+    sum(at, len)
+}
+
+// The calls of a tape, after its version byte, over tables of zeros.
+fn calls(part: &[u8], out: &mut [u8]) -> usize
+    ensures { λ r. ⌜ Passed (callLines (now (part .entry))) (now (out .entry)) r (now (out .exit)) ⌝ }
+{
+    let mut values = [0u64; 1024];
+    let mut words = [0u64; 1024];
+    let mut seats = [0u64; 5536];
+    let start = Tally {
+        calls: 0,
+        offset: 1,
+        records: 0,
+    };
+    let r = feed(part, start, &mut values, &mut words, &mut seats, out, 0);
+    if r.stopped {
+        return r.end;
+    }
+    let used = r.used;
+    finish(out, r.end, used == part.len(), r.calls, 1 + used as u64)
+}
+
+// One pass over a tape: where its text would end, and the text in out where it fits whole.
+fn pass(tape: &[u8], out: &mut [u8]) -> usize
+    ensures { λ r. ⌜ Passed (linesOf (now (tape .entry))) (now (out .entry)) r (now (out .exit)) ⌝ }
+{
+    if 0 < tape.len() {
+        if tape[0] == VERSION {
+            return calls(&tape[1..], out);
+        }
+    }
+    text::last(out, 0, b"stopped 31", 0)
+}
+
+// Runs a tape from memory: its lines into out, and how many bytes they are. Where they do not fit, out stays and the answer is 2^64 - 1.
+// The first pass measures and writes nothing; the second writes.
+pub fn run(tape: &[u8], out: &mut [u8]) -> u64
+    ensures { λ r. ⌜ Written (now (tape .entry)) (now (out .entry)) r (now (out .exit)) ⌝ }
+{
+    let n = pass(tape, &mut out[..0]);
+    if n <= out.len() {
+        pass(tape, out);
+        return n as u64;
+    }
+    18446744073709551615
+}
+
+// Moves the bytes from `from` up to `to` to the front.
+fn shift(buf: &mut [u8], from: usize, to: usize)
+    requires { ⌜ (from ≤ to) × (to ≤ length (now buf)) ⌝ }
+    ensures { λ _. ⌜ now (buf .exit) ≡ paste (now (buf .entry)) 0 (drop from (now (buf .entry))) (to - from) ⌝ }
+{
+    let mut i = 0;
+    while i < to - from {
+        buf[i] = buf[from + i];
+        i += 1;
+    }
+}
+
+// Whether a buffer's front is not to be absorbed.
+fn is_unfit(buffer: usize, to: usize, k: Tally, values: usize, words: usize, out: usize) -> bool
+    ensures { λ r. ⌜ r ≡ unfit buffer to k values words out ⌝ }
+{
+    if buffer < to {
+        return true;
+    }
+    if FAR_OFF < k.calls {
+        return true;
+    }
+    if FAR_OFF < k.offset {
+        return true;
+    }
+    if MOST_RECORDS < k.records {
+        return true;
+    }
+    if values != 1024 {
+        return true;
+    }
+    if words != 1024 {
+        return true;
+    }
+    if out < 40 {
+        return true;
+    }
+    (out - 40) / 13 < to
+}
+
+// Takes every whole call of the first `to` bytes of buf, puts their lines into out, and moves what is left to the front.
+pub fn absorb(
+    buf: &mut [u8],
+    to: usize,
+    k: Tally,
+    values: &mut [u64],
+    words: &mut [u64],
+    seats: &mut [u64],
+    out: &mut [u8],
+) -> Flow
+    ensures { λ r. ⌜ Absorbed (unfit (length (now (buf .entry))) to k (length (now (values .entry))) (length (now (words .entry))) (length (now (out .entry)))) to k (tables (now (values .entry)) (now (words .entry)) (now (seats .entry))) (now (buf .entry)) (now (out .entry)) r (tables (now (values .exit)) (now (words .exit)) (now (seats .exit))) (now (buf .exit)) (now (out .exit)) ⌝ }
+{
+    if is_unfit(buf.len(), to, k, values.len(), words.len(), out.len()) {
+        return Flow {
+            waiting: 0,
+            calls: k.calls,
+            offset: k.offset,
+            records: k.records,
+            end: 0,
+            stopped: true,
+        };
+    }
+    let r = feed(&buf[..to], k, values, words, seats, out, 0);
+    let used = r.used;
+    shift(buf, used, to);
+    Flow {
+        waiting: to - used,
+        calls: r.calls,
+        offset: k.offset + used as u64,
+        records: r.records,
+        end: r.end,
+        stopped: r.stopped,
+    }
+}

@@ -1,0 +1,38 @@
+-- `text::width` meets its contract. Assumes nothing.
+use Rattle.text.proofs.Laws.{width-done, width-more, width-end}
+use Rattle.text.specs.Text.{widthIn, widthOf}
+use native.Mathlib.Omega.{arith}
+use mathlib.Core.Path.{_≡_, _∙_}
+use Prim.Native.Nat.{ℕ, _+_, _≤_, _-_}
+use borrow.Author.Needs.{needs}
+use Rattle.text.proofs.width.Statement.{statement}
+use Rattle.text.proofs.width.Tie as tie
+
+abbrev Inv-loop : tie.InvT-loop
+Inv-loop n k₀ rest₀ k rest = (1 ≤ k) × (k ≤ 20) × (k + widthIn (20 - k) rest ≡ 1 + widthOf n)
+
+abbrev μ-loop : tie.MeasureT-loop
+μ-loop n k₀ rest₀ k rest = 20 - k
+
+loop-holds : tie.Need-loop-holds Inv-loop μ-loop
+unfolding widthOf
+loop-holds c = search needs
+
+returns : tie.Need-returns Inv-loop μ-loop
+returns c = (omega (arith, width-done (20 - c .before .before .loop .k) (c .before .before .loop .rest) (omega arith)), search needs, search needs)
+
+add-k : tie.Need-add-k Inv-loop μ-loop
+add-k c = search needs
+
+loop-less : tie.Need-loop-less Inv-loop μ-loop
+loop-less c = search needs
+
+loop-again : tie.Need-loop-again Inv-loop μ-loop
+loop-again c = (search needs, search needs, omega (arith, width-more (c .before .before .loop .k) (c .before .before .loop .rest) (omega arith) (omega arith)))
+
+returns-2 : tie.Need-returns-2 Inv-loop μ-loop
+returns-2 c = (omega (arith, width-end (c .before .loop .k) (c .before .loop .rest) (omega arith)), search needs, search needs)
+
+pub width-spec : {M : Type 1} → statement M
+width-spec =
+    tie.close (tie.spec Inv-loop μ-loop loop-holds returns add-k loop-less loop-again returns-2)
