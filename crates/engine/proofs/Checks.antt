@@ -1,14 +1,14 @@
 -- The check of a read entry: the verdict, and what it says.
 use Prim.Native.Nat.{ℕ, _+_, _≤_, _<_}
-use mathlib.Core.Path.{_≡_, refl, sym, ap, _∙_}
-use mathlib.Core.Bool.{Bool, true, false, cond, not, _&&_}
+use mathlib.Core.Path.{_≡_, refl, sym}
+use mathlib.Core.Bool.{Bool, true, false, cond, not}
 use mathlib.Core.List.{List}
 use native.Mathlib.Omega.{arith}
 use borrow.Author.Tests.{eqb-true, le-leb, lt-leb}
 use denote.Enum.Declared.{tagOf}
-use lib.Dec.{eqb, ltb, leb}
+use lib.Dec.{eqb, ltb}
 use lib.ListN.{getD, set}
-use Rattle.clock.specs.Word.{top, isLocked, writeTime, readTime, extended}
+use Rattle.clock.specs.Word.{top, writeTime, extended}
 use Rattle.rules.specs.Layout.{positionAt, row, put, readItem, keptWrite, keptRead}
 use Rattle.rules.specs.Tables.{tables, after}
 use Rattle.rules.specs.Work.{writeOf}
@@ -21,7 +21,7 @@ use Rattle.rules.proofs.Verdict.{the-type}
 use Rattle.rows.specs.Fine.{kept-below, time-top}
 use Rattle.seats.specs.Heads.{HeadOf}
 use Rattle.seats.specs.declared.Head.{Head}
-use Rattle.engine.specs.Ready.{Ready, wordVerdict}
+use Rattle.engine.specs.Ready.{Checks, wordVerdict}
 use Rattle.engine.proofs.Outcomes.{same}
 
 -- a match on a verdict
@@ -67,9 +67,9 @@ extends-kept wrote tc word own e = eqb-true (writeTime word) wrote (go (eqb (wri
     go false o q = absurd (not-extends 22 q)
 
 -- the clock takes the time: it is not above T, nor below the word's write time
-pub may-extend : {seats : List ℕ} {s records : ℕ} {h : Head} {wrote : ℕ} (word : ℕ) → Ready seats s records h → h .phase ≡ 3 → h .position < h .reads → wrote ≡ keptWrite (row seats s) (h .position) → writeTime word ≡ wrote → (writeTime word ≤ h .time) × (h .time ≤ top)
-may-extend {h = h} word r e l k w =
-    let q = r .head in
-    let kept = kept-below _ _ (r .sound) (h .position) (omega arith) (omega arith) in
-    let late = time-top _ _ (r .sound) (omega arith) in
+pub may-extend : {seats : List ℕ} {s records : ℕ} {h : Head} {item wrote : ℕ} (word : ℕ) → Checks seats s records h item wrote → writeTime word ≡ wrote → (writeTime word ≤ h .time) × (h .time ≤ top)
+may-extend {h = h} word r w =
+    let q = r .ready .head in
+    let kept = kept-below _ _ (r .ready .sound) (h .position) (omega arith) (omega arith) in
+    let late = time-top _ _ (r .ready .sound) (omega arith) in
     (omega arith, omega arith)

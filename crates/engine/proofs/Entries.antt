@@ -1,5 +1,5 @@
 -- What the code reads from a seat's part of the table is what the rules read from its row.
-use Prim.Native.Nat.{ℕ, _+_, _≤_, _<_}
+use Prim.Native.Nat.{ℕ, _≤_}
 use mathlib.Core.Path.{_≡_, sym, _∙_}
 use mathlib.Core.Bool.{cond}
 use mathlib.Core.List.{List}
@@ -10,7 +10,7 @@ use Rattle.rules.specs.Tests.{first}
 use Rattle.rules.specs.Layout.{mostWrites, readsFrom, readWidth, writesFrom, writeWidth, reads, writes}
 use Rattle.rules.specs.Work.{readNames, writeNames, readOf, writeOf, above, placeOf}
 use Rattle.rules.specs.Advance.{heldLocks, seenTime, dueTime, commitTime}
-use Rattle.rows.specs.Fine.{Sound, locks-small}
+use Rattle.rows.specs.Fine.{locks-small}
 use Rattle.seats.specs.Heads.{HeadOf}
 use Rattle.seats.specs.declared.Head.{Head}
 use Rattle.engine.specs.Ready.{Ready, names}

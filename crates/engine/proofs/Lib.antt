@@ -1,3 +1,4 @@
+-- Laws that the proofs of this crate share.
 pub mod Outcomes
 pub mod Folds
 pub mod Slides

@@ -1,4 +1,4 @@
--- Outcomes and runs of stores, part by part; and what a call that is not refused hands to its helpers.
+-- Outcomes and runs of stores, part by part; and what is known once a call is not refused.
 use Prim.Native.Nat.{ℕ, _≤_}
 use mathlib.Core.Path.{_≡_, sym, _∙_}
 use mathlib.Core.List.{List}

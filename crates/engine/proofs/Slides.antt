@@ -4,7 +4,7 @@ use mathlib.Core.Path.{_≡_, refl, sym, ap, _∙_}
 use mathlib.Core.List.{List}
 use native.Mathlib.Omega.{arith}
 use lib.ListN.{getD}
-use Rattle.rules.specs.Layout.{rowWidth, rowAt, row, cell, put}
+use Rattle.rules.specs.Layout.{rowWidth, rowAt, cell, put}
 use Rattle.rules.specs.Places.{cell-at, cell-put-field}
 use Rattle.rules.specs.Work.{slid}
 

@@ -1,3 +1,3 @@
--- What the code of Read, Write, Advance and Abandon is stated by, beside the rules.
+-- What the code of the four calls is stated by, beside the rules (Ready), and that a statement leaves one result (Unique).
 pub mod Ready
 pub mod Unique

@@ -1,48 +1,29 @@
 // Read, Write, Advance and Abandon.
 ghost use mathlib.Core.Path.{_≡_};
-ghost use mathlib.Core.Bool.{true, false, cond, _&&_};
+ghost use mathlib.Core.Bool.{cond, _&&_};
 ghost use mathlib.Core.List.{List};
-ghost use Prim.Native.Nat.{ℕ, _+_, _-_, _*_, max, _<_, _≤_};
+ghost use Prim.Native.Nat.{ℕ, _+_, _-_, _*_, _<_, _≤_};
 ghost use lib.Dec.{eqb, leb};
 ghost use lib.ListN.{length, getD};
 ghost use Rattle.clock.specs.Word.{top, writeTime, fresh, extended};
 ghost use Rattle.rules.specs.Tests.{first as firstOf};
-ghost use Rattle.rules.specs.Layout.{seatCount, mostReads, mostWrites, rowWidth, seatsLength, row, put, writeWidth, readItem, keptWrite, keptRead, reads as readsOf, writes as writesOf, time as timeOf};
-ghost use Rattle.rules.specs.Tables.{Tables, tables, after};
+ghost use Rattle.rules.specs.Layout.{mostReads, mostWrites, rowWidth, positionAt, row, put, writeWidth, reads as readsOf, writes as writesOf, time as timeOf};
+ghost use Rattle.rules.specs.Tables.{tables, after};
 ghost use Rattle.rules.specs.Work.{readNoted, firstRead, readIn, read, above, slid, placed, writeIn, write};
-ghost use Rattle.rules.specs.Advance.{released, letGo, moved, lockStep, seenTime, dueTime, timeStep, ruled, passed, checkStep, sealStep, storeStep, doneStep, lockPhase, checkPhase, storePhase, advanceIn, advance, abandon};
+ghost use Rattle.rules.specs.Advance.{released, letGo, moved, lockStep, seenTime, dueTime, timeStep, checkStep, sealStep, storeStep, doneStep, lockPhase, checkPhase, storePhase, advanceIn, advance, abandon};
 ghost use Rattle.rules.specs.declared.Answer.{Answer};
 ghost use Rattle.rules.specs.declared.Answer.the-variants.{Aborted};
-ghost use Rattle.engine.specs.Ready.{Seated, Ready, names, wordVerdict};
-ghost use Rattle.seats.specs.Heads.{headOf};
+ghost use Rattle.engine.specs.Ready.{Seated, Ready, Checks, names, wordVerdict};
+ghost use Rattle.seats.specs.Heads.{headOf, HeadOf};
 use clock::Packed;
 use rules::Answer;
 use rules::Verdict;
 use seats::Head;
 use seats::at;
 use seats::free_row;
+use seats::greater;
 use seats::head_of;
-use seats::layout::CHECKING;
-use seats::layout::KEPT_READ;
-use seats::layout::KEPT_WRITE;
-use seats::layout::LOCKING;
-use seats::layout::MOST_READS;
-use seats::layout::MOST_WRITES;
-use seats::layout::PHASE;
-use seats::layout::PLAN_WIDTH;
-use seats::layout::POSITION;
-use seats::layout::READ_ITEM;
-use seats::layout::READ_VALUE;
-use seats::layout::READ_WIDTH;
-use seats::layout::READS;
-use seats::layout::ROW_WIDTH;
-use seats::layout::STORING;
-use seats::layout::TIME;
-use seats::layout::WORKING;
-use seats::layout::WRITE_ITEM;
-use seats::layout::WRITE_VALUE;
-use seats::layout::WRITE_WIDTH;
-use seats::layout::WRITES;
+use seats::layout::*;
 use seats::refusal_of;
 use seats::store;
 
@@ -72,6 +53,7 @@ fn entry(row: &[u64], first: u64, width: u64, i: u64) -> u64
     row[k]
 }
 
+// A store at a place of a seat's row.
 fn give(seats: &mut [u64], seat: u64, field: u64, v: u64)
     requires { ⌜ Seated (now seats) seat × (field < rowWidth) ⌝ }
     ensures { λ _. ⌜ now (seats .exit) ≡ put (now (seats .entry)) seat field v ⌝ }
@@ -96,27 +78,21 @@ fn find(row: &[u64], first: u64, width: u64, n: u64, item: u64) -> u64
 }
 
 // READ
+// A new read entry.
 fn note_read(seats: &mut [u64], seat: u64, n: u64, item: u64, value: u64, word: u64)
     requires { ⌜ Seated (now seats) seat × (n ≡ readsOf (row (now seats) seat)) × (n < mostReads) ⌝ }
     ensures { λ _. ⌜ now (seats .exit) ≡ readNoted (now (seats .entry)) seat item value word ⌝ }
 {
+    let wrote = clock::write_time(word);
+    let upto = clock::read_time(word);
     give(seats, seat, READ_ITEM + READ_WIDTH * n, item);
     give(seats, seat, READ_VALUE + READ_WIDTH * n, value);
-    give(
-        seats,
-        seat,
-        KEPT_WRITE + READ_WIDTH * n,
-        clock::write_time(word),
-    );
-    give(
-        seats,
-        seat,
-        KEPT_READ + READ_WIDTH * n,
-        clock::read_time(word),
-    );
+    give(seats, seat, KEPT_WRITE + READ_WIDTH * n, wrote);
+    give(seats, seat, KEPT_READ + READ_WIDTH * n, upto);
     give(seats, seat, READS, n + 1);
 }
 
+// A read of a record that the row does not name yet.
 fn first_read(
     values: &[u64],
     words: &[u64],
@@ -211,23 +187,21 @@ fn slide(seats: &mut [u64], seat: u64, from: u64, to: u64)
     }
 }
 
+// A new write entry at place i.
 fn place(seats: &mut [u64], seat: u64, n: u64, i: u64, item: u64, value: u64)
     requires { ⌜ Seated (now seats) seat × (n ≡ writesOf (row (now seats) seat)) × (n < mostWrites) × (i ≤ n) ⌝ }
     ensures { λ _. ⌜ now (seats .exit) ≡ placed (now (seats .entry)) seat i item value ⌝ }
 {
-    slide(
-        seats,
-        seat,
-        WRITE_ITEM + WRITE_WIDTH * i,
-        WRITE_ITEM + WRITE_WIDTH * n,
-    );
-    give(seats, seat, WRITE_ITEM + WRITE_WIDTH * i, item);
+    let from = WRITE_ITEM + WRITE_WIDTH * i;
+    let to = WRITE_ITEM + WRITE_WIDTH * n;
+    slide(seats, seat, from, to);
+    give(seats, seat, from, item);
     give(seats, seat, WRITE_VALUE + WRITE_WIDTH * i, value);
     give(seats, seat, WRITES, n + 1);
 }
 
-fn write_in(seats: &mut [u64], seat: u64, records: u64, head: Head, item: u64, value: u64) -> Answer
-    requires { ⌜ Ready (now seats) seat records head ⌝ }
+fn write_in(seats: &mut [u64], seat: u64, head: Head, item: u64, value: u64) -> Answer
+    requires { ⌜ Seated (now seats) seat × HeadOf (row (now seats) seat) head × (head .writes ≤ mostWrites) ⌝ }
     ensures { λ r. ⌜ ((v w : List ℕ) → after r v w (now (seats .exit)) ≡ writeIn (tables v w (now (seats .entry))) seat item value) ⌝ }
 {
     let row = row_of(seats, seat);
@@ -261,10 +235,10 @@ pub fn write(
         return Answer::Refused(why);
     }
     let head = head_at(seats, seat);
-    write_in(seats, seat, words.len() as u64, head, item, value)
+    write_in(seats, seat, head, item, value)
 }
 
-// LETTING GO: what an abort and Abandon do
+// LETTING GO: an abort and Abandon
 // Clears the locks of a row's first n write entries.
 fn release(words: &mut [u64], row: &[u64], n: u64)
     requires { ⌜ (length (now row) ≡ rowWidth) × (n ≤ mostWrites) ⌝ }
@@ -279,6 +253,7 @@ fn release(words: &mut [u64], row: &[u64], n: u64)
     }
 }
 
+// How many of its write entries a row in phases 1 to 3 holds the locks of.
 fn held_locks(head: Head) -> u64
     ensures { λ r. ⌜ r ≡ cond (eqb (head .phase) 3) (head .writes) (head .position) ⌝ }
 {
@@ -328,12 +303,6 @@ fn lock_step(words: &mut [u64], seats: &mut [u64], seat: u64, head: Head) -> Ans
     Answer::Locked(item)
 }
 
-fn greater(a: u64, b: u64) -> u64
-    ensures { λ r. ⌜ r ≡ max a b ⌝ }
-{
-    if a < b { b } else { a }
-}
-
 // The greatest of 0 and the kept write times of a row's first n read entries.
 fn seen_time(row: &[u64], n: u64) -> u64
     requires { ⌜ (length (now row) ≡ rowWidth) × (n ≤ mostReads) ⌝ }
@@ -378,6 +347,14 @@ fn time_step(words: &mut [u64], seats: &mut [u64], seat: u64, head: Head) -> Ans
 }
 
 // CHECKING
+// Another transaction's lock, with a read time not above the time.
+fn is_blocked(locked: bool, read: u64, time: u64) -> bool
+    ensures { λ r. ⌜ r ≡ (locked && leb read time) ⌝ }
+{
+    locked && read <= time
+}
+
+// The check of a read entry by its word, where the kept read time does not cover the time.
 fn judge(wrote: u64, time: u64, word: u64, own: bool) -> Verdict
     ensures { λ r. ⌜ r ≡ wordVerdict wrote time word own ⌝ }
 {
@@ -397,12 +374,7 @@ fn judge(wrote: u64, time: u64, word: u64, own: bool) -> Verdict
     Verdict::Passes
 }
 
-fn is_blocked(locked: bool, read: u64, time: u64) -> bool
-    ensures { λ r. ⌜ r ≡ (locked && leb read time) ⌝ }
-{
-    locked && read <= time
-}
-
+// The time is one that the word can take, so the clock gives a word.
 fn extended_word(word: u64, time: u64) -> u64
     requires { ⌜ (writeTime word ≤ time) × (time ≤ top) ⌝ }
     ensures { λ r. ⌜ r ≡ extended word time ⌝ }
@@ -413,9 +385,10 @@ fn extended_word(word: u64, time: u64) -> u64
     w
 }
 
+// Passing a check: position up by one.
 fn pass(seats: &mut [u64], seat: u64, position: u64, item: u64) -> Answer
     requires { ⌜ Seated (now seats) seat × (position ≤ mostReads) ⌝ }
-    ensures { λ r. ⌜ (r ≡ Answer.Checked item) × (now (seats .exit) ≡ put (now (seats .entry)) seat 2 (position + 1)) ⌝ }
+    ensures { λ r. ⌜ (r ≡ Answer.Checked item) × (now (seats .exit) ≡ put (now (seats .entry)) seat positionAt (position + 1)) ⌝ }
 {
     give(seats, seat, POSITION, position + 1);
     Answer::Checked(item)
@@ -429,18 +402,13 @@ fn check_word(
     item: u64,
     wrote: u64,
 ) -> Answer
-    requires { ⌜ Ready (now seats) seat (length (now words)) head × (head .phase ≡ 3) × (head .position < head .reads) × (item ≡ readItem (row (now seats) seat) (head .position)) × (wrote ≡ keptWrite (row (now seats) seat) (head .position)) × (keptRead (row (now seats) seat) (head .position) < head .time) ⌝ }
+    requires { ⌜ Checks (now seats) seat (length (now words)) head item wrote ⌝ }
     ensures { λ r. ⌜ ((v : List ℕ) → after r v (now (words .exit)) (now (seats .exit)) ≡ checkStep (tables v (now (words .entry)) (now (seats .entry))) seat) ⌝ }
 {
     let word = at(words, item);
-    let own = find(
-        row_of(seats, seat),
-        WRITE_ITEM,
-        WRITE_WIDTH,
-        head.writes,
-        item,
-    )
-        < head.writes;
+    let row = row_of(seats, seat);
+    let w = find(row, WRITE_ITEM, WRITE_WIDTH, head.writes, item);
+    let own = w < head.writes;
     let found = judge(wrote, head.time, word, own);
     match found {
         Verdict::Passes => pass(seats, seat, head.position, item),
@@ -452,6 +420,7 @@ fn check_word(
     }
 }
 
+// Where the kept read time covers the time, the entry passes and nothing else is looked at.
 fn check_step(words: &mut [u64], seats: &mut [u64], seat: u64, head: Head) -> Answer
     requires { ⌜ Ready (now seats) seat (length (now words)) head × (head .phase ≡ 3) × (head .position < head .reads) ⌝ }
     ensures { λ r. ⌜ ((v : List ℕ) → after r v (now (words .exit)) (now (seats .exit)) ≡ checkStep (tables v (now (words .entry)) (now (seats .entry))) seat) ⌝ }
@@ -474,6 +443,7 @@ fn seal_step(seats: &mut [u64], seat: u64, time: u64) -> Answer
 }
 
 // STORING
+// The time is not above T, so the clock gives a word.
 fn fresh_word(time: u64) -> u64
     requires { ⌜ time ≤ top ⌝ }
     ensures { λ r. ⌜ r ≡ fresh time ⌝ }
@@ -561,11 +531,11 @@ fn advance_in(
 {
     let phase = head.phase;
     match phase {
-        1 => lock_phase(words, seats, seat, head),
-        2 => lock_phase(words, seats, seat, head),
-        3 => check_phase(words, seats, seat, head),
-        4 => store_phase(values, words, seats, seat, head),
-        0 | 5..=18446744073709551615 => Answer::Refused(3),
+        WORKING => lock_phase(words, seats, seat, head),
+        LOCKING => lock_phase(words, seats, seat, head),
+        CHECKING => check_phase(words, seats, seat, head),
+        STORING => store_phase(values, words, seats, seat, head),
+        FREE | 5..=18446744073709551615 => Answer::Refused(3),
     }
 }
 

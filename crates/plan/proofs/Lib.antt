@@ -1,2 +1,3 @@
+-- Laws that the proofs of this crate share.
 pub mod Pass
 pub mod Start

@@ -1,19 +1,18 @@
--- The loops of this crate, one more turn and the end: the pass over the rows, and the sums over the owners.
+-- The pass over the rows, Open's tests after it, the plan's own tests, the sums over the owners and the plan laid: what each loop holds after one turn more, and at its end.
 use Prim.Native.Nat.{ℕ, zero, suc, _+_, max, _<_, _≤_}
 use mathlib.Core.Path.{_≡_, refl, sym, ap, _∙_}
-use mathlib.Core.Logic.{_≢_, _⊎_, inl, inr, ⊎-elim}
+use mathlib.Core.Logic.{_≢_, _⊎_, inl, inr}
 use mathlib.Core.Bool.{Bool, true, false, cond, not, _&&_, true≢false}
 use mathlib.Core.List.{List}
 use native.Mathlib.Omega.{arith}
 use native.Mathlib.Decide.{decLt}
 use native.Mathlib.Numerals.{add-one}
-use borrow.Author.Tests.{eq-eqb, ne-eqb, lt-ltb, le-ltb, ltb-false, eqb-true, eqb-false, not-true, not-false, lt-leb}
-use lib.Dec.{eqb, ltb, leb}
+use borrow.Author.Tests.{lt-ltb, le-ltb, ltb-false, eqb-true, eqb-false, lt-leb}
+use lib.Dec.{eqb, ltb}
 use lib.ListN.{length, getD, set, replicate, length-set, length-replicate, getD-replicate, List·getD-eq-default}
 use lib.Seq.{getD-set-same, getD-set-other}
 use Rattle.rules.specs.Tests.{first, any, count, sumTo, oneOf, firstOf}
-use Rattle.rules.specs.Layout.{owners, seatCount, rowWidth, rowAt, row, phase, owner, share, limit}
-use Rattle.rules.specs.Places.{cell-at}
+use Rattle.rules.specs.Layout.{owners, seatCount, row, phase, owner, share, limit}
 use Rattle.rules.specs.Tables.{tables}
 use Rattle.rules.specs.Refusals.{unsized}
 use Rattle.rules.specs.Plan.{badShare, badPlan, badRow, holds, held, claim, isFree, freeSeat, laid, openRefusal, unsound}

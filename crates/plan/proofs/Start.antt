@@ -1,5 +1,5 @@
 -- Setup's start: the clock's answer to it says whether it is above T.
-use Prim.Native.Nat.{ℕ, _≤_, _<_}
+use Prim.Native.Nat.{ℕ, _<_}
 use mathlib.Core.Path.{_≡_, sym, ap, _∙_}
 use mathlib.Core.Bool.{true, false}
 use native.Mathlib.Omega.{arith}
@@ -8,7 +8,7 @@ use borrow.Author.Tests.{lt-ltb, le-ltb}
 use denote.Enum.Declared.{tagOf}
 use lib.Dec.{ltb}
 use Rattle.clock.specs.declared.Packed.{Packed}
-use Rattle.clock.specs.declared.Packed.the-variants.{Word, Refused}
+use Rattle.clock.specs.declared.Packed.the-variants.{Word}
 use Rattle.clock.proofs.Packed.{the-type}
 use Rattle.clock.specs.Word.{top, fresh, freshAt}
 use Rattle.clock.specs.Laws.{freshAt-word, freshAt-late}

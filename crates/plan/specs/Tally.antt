@@ -23,11 +23,13 @@ pub record Counts (seats held : List ℕ) (n : ℕ) : Type 0 where
   pub wide : length held ≡ owners
   pub each : (o : ℕ) → o < owners → getD held o 0 ≡ count (holds seats o) n
 
+-- what the pass comes to; its counts and its free seat mean something only where no row is bad
 pub record Tallied (seats held : List ℕ) (rows : Rows) : Type 0 where
   pub bad-is : rows .bad ≡ any (badRow seats) seatCount
   pub counts : rows .bad ≡ false → Counts seats held seatCount
   pub free-is : rows .bad ≡ false → rows .free ≡ freeSeat seats
 
+-- 3 for U above 64, then 6 and 7, from an owner's numbers
 unfoldable pub ownerRefusal : ℕ → ℕ → ℕ → ℕ → ℕ
 ownerRefusal share limit mine claims =
     cond (ltb seatCount claims) 3 (cond (leb limit mine) 6 (cond (leb share mine && eqb claims seatCount) 7 0))

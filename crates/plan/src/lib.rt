@@ -1,31 +1,22 @@
 // Setup and Open: the plan of shares and limits, the seats held under it, and the seat that is given.
 ghost use mathlib.Core.Path.{_≡_};
-ghost use mathlib.Core.Bool.{true, false, cond, not, _||_, _&&_};
-ghost use mathlib.Core.List.{List};
-ghost use Prim.Native.Nat.{ℕ, _+_, max, _<_, _≤_};
+ghost use mathlib.Core.Bool.{true, false, not, _||_, _&&_};
+ghost use Prim.Native.Nat.{_+_, _<_, _≤_};
 ghost use lib.Dec.{eqb, ltb, leb};
-ghost use lib.ListN.{length, getD, set};
+ghost use lib.ListN.{length, getD};
 ghost use Rattle.rules.specs.Tests.{any};
-ghost use Rattle.rules.specs.Layout.{owners, seatCount, seatsLength};
+ghost use Rattle.rules.specs.Layout.{owners, seatCount, planWidth, seatsLength};
 ghost use Rattle.rules.specs.Tables.{tables, after};
-ghost use Rattle.rules.specs.Plan.{badPlan, badRow, overLimit, claims, laid, opened, setup, openSeat, freeSeat};
+ghost use Rattle.rules.specs.Plan.{badPlan, overLimit, claims, laid, opened, setup, openSeat};
 ghost use Rattle.plan.specs.Tally.{counted, lowest, Counts, Tallied, planRefusal, ownerRefusal};
 use clock::Packed;
 use rules::Answer;
 use seats::at;
 use seats::fill;
 use seats::free_row;
+use seats::greater;
 use seats::is_unsized;
-use seats::layout::FREE;
-use seats::layout::LIMITS_FROM;
-use seats::layout::OWNER;
-use seats::layout::OWNERS;
-use seats::layout::PHASE;
-use seats::layout::PLAN_WIDTH;
-use seats::layout::ROW_WIDTH;
-use seats::layout::SEATS;
-use seats::layout::STORING;
-use seats::layout::WORKING;
+use seats::layout::*;
 use seats::store;
 
 // A plan that Setup would refuse. `plan` is Setup's own, or a seat table, which begins with one.
@@ -51,7 +42,7 @@ fn is_bad_plan(plan: &[u64]) -> bool
 
 // SETUP
 fn lay(seats: &mut [u64], plan: &[u64])
-    ensures { λ _. ⌜ now (seats .exit) ≡ laid (now (seats .entry)) (now (plan .entry)) 32 ⌝ }
+    ensures { λ _. ⌜ now (seats .exit) ≡ laid (now (seats .entry)) (now (plan .entry)) planWidth ⌝ }
 {
     let mut i = 0;
     while i < PLAN_WIDTH {
@@ -159,12 +150,6 @@ fn some_over(seats: &[u64], held: &[u64]) -> bool
         o += 1;
     }
     false
-}
-
-fn greater(a: u64, b: u64) -> u64
-    ensures { λ r. ⌜ r ≡ max a b ⌝ }
-{
-    if a < b { b } else { a }
 }
 
 // U: over all owners, the greater of held and share.

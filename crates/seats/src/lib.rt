@@ -2,7 +2,7 @@
 ghost use mathlib.Core.Path.{_≡_};
 ghost use mathlib.Core.List.{[], _∷_};
 ghost use mathlib.Core.Bool.{_&&_};
-ghost use Prim.Native.Nat.{_+_, _*_, _<_, _≤_};
+ghost use Prim.Native.Nat.{_+_, _*_, max, _<_, _≤_};
 ghost use lib.Dec.{ltb, leb};
 ghost use lib.ListN.{length, getD, set, replicate};
 ghost use Rattle.rules.specs.Tests.{any, oneOf};
@@ -14,28 +14,7 @@ ghost use Rattle.seats.specs.Freeing.{freedIn};
 
 pub mod layout;
 
-use layout::CHECKING;
-use layout::FREE;
-use layout::KEPT_WRITE;
-use layout::MOST_READS;
-use layout::MOST_RECORDS;
-use layout::MOST_WRITES;
-use layout::OWNER;
-use layout::OWNERS;
-use layout::PHASE;
-use layout::PLAN_WIDTH;
-use layout::POSITION;
-use layout::READ_ITEM;
-use layout::READ_WIDTH;
-use layout::READS;
-use layout::ROW_WIDTH;
-use layout::SEATS;
-use layout::SEATS_LENGTH;
-use layout::STORING;
-use layout::TIME;
-use layout::WRITE_ITEM;
-use layout::WRITE_WIDTH;
-use layout::WRITES;
+use layout::*;
 
 // The first six numbers of a row.
 pub struct Head {
@@ -89,6 +68,12 @@ pub fn head_of(row: &[u64]) -> Head
     }
 }
 
+pub fn greater(a: u64, b: u64) -> u64
+    ensures { λ r. ⌜ r ≡ max a b ⌝ }
+{
+    if a < b { b } else { a }
+}
+
 // A number of a row's entry: `first` is where it stands in the first entry, `width` how far on in the next.
 fn entry(row: &[u64], first: u64, width: u64, i: u64) -> u64
     requires { ⌜ first + width * i < length (now row) ⌝ }
@@ -132,9 +117,9 @@ fn is_misplaced(phase: u64, position: u64, reads: u64, writes: u64) -> bool
     ensures { λ r. ⌜ r ≡ misplaced phase position reads writes ⌝ }
 {
     match phase {
-        1 => position != 0,
-        2 => position == 0 || writes < position,
-        3 => reads < position,
+        WORKING => position != 0,
+        LOCKING => position == 0 || writes < position,
+        CHECKING => reads < position,
         _ => writes < position,
     }
 }

@@ -127,11 +127,12 @@ fit buffer to k values words out e =
 
 -- what a run over the front of a buffer leaves, where there was room
 pub took : (f : Fed) (t : List ℕ) (k : Tally) (before : List ℕ) (r : Progress) (after : Tables) (left front : List ℕ) (w : ℕ) → Ran f t (k .offset) 0 before r after left
-    → length (f .text) ≤ length before → length before < most → front ≡ drop (r .used) t
+    → length (f .text) ≤ length before → length before < most → front ≡ drop (r .used) t → w ≡ length t - r .used
     → Took f (record { waiting = w; calls = r .calls; offset = k .offset + r .used; records = r .records; end = r .end; stopped = r .stopped }) front before after left
-took f t k before r after left front w d room short e =
+took f t k before r after left front w d room short e q =
     let n : r .end ≡ length (f .text) = d .end ∙ capped-small 0 (length (f .text)) (omega arith) ∙ zero-add (length (f .text)) in
     record {
+      waiting = q ∙ sym (length-drop (r .used) t) ∙ ap length (d .rest);
       front-is = e ∙ d .rest;
       calls = d .calls;
       offset = d .at;

@@ -1,6 +1,7 @@
--- 'The tape and its program': a call's bytes (Decode), and every byte that a tape prints (Lines),
--- and what the functions leave of a turn and of a run (Turns).
+-- 'The tape and its program': a call's bytes (Decode), every byte that a tape prints (Lines), a tape that comes in parts (Parts),
+-- what the functions leave of a turn and of a run (Turns), and that each statement leaves one answer (Unique).
 pub mod Decode
 pub mod Lines
 pub mod Parts
 pub mod Turns
+pub mod Unique

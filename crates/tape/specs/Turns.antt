@@ -103,6 +103,7 @@ unfit buffer to k values words out =
 
 -- what is left of the first bytes stands at the buffer's front, and the lines stand at the front of the output
 pub record Took (f : Fed) (r : Flow) (front : List ℕ) (before : List ℕ) (after : Tables) (left : List ℕ) : Type 0 where
+  pub waiting : r .waiting ≡ length (f .left)
   pub front-is : front ≡ f .left
   pub calls : r .calls ≡ f .kept .calls
   pub offset : r .offset ≡ f .kept .offset

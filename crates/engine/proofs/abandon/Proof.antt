@@ -6,46 +6,32 @@ use Rattle.rules.specs.Advance.{abandon}
 use Rattle.engine.proofs.Outcomes.{phase-below, ready, seated}
 use Rattle.engine.proofs.abandon.Statement.{statement}
 use Rattle.engine.proofs.abandon.Tie as tie
-use Rattle.engine.proofs.abandon.Reads as reads
-use Rattle.engine.proofs.abandon.Lts as lts
-use Rattle.engine.proofs.head_at.Reads as head-at-reads
-use Rattle.engine.proofs.let_go.Reads as let-go-reads
-use Rattle.seats.proofs.refusal_of.Reads as refusal-of-reads
 
--- src/lib.rt:492:9
 refusal-of-requires : tie.Need-refusal-of-requires
 refusal-of-requires c κs = search needs
 
--- src/lib.rt:494:9
 same-length : tie.Need-same-length
 same-length c = search needs
 
--- src/lib.rt:494:9
 same-length-2 : tie.Need-same-length-2
 same-length-2 c = search needs
 
--- src/lib.rt:494:9
 returns : tie.Need-returns
 unfolding abandon
 returns c = simp (ne-eqb _ _ (c .if1 .taken), ← c .before .refusal-of .ensures)
 
--- src/lib.rt:496:9
 head-at-requires : tie.Need-head-at-requires
 head-at-requires c κs = seated _ _ _ _ _ (sym (c .before .before .refusal-of .ensures) ∙ c .before .if1 .left)
 
--- src/lib.rt:497:5
 let-go-requires : tie.Need-let-go-requires
 let-go-requires c κs = (ready _ _ _ _ _ (sym (c .before .before .before .before .before .refusal-of .ensures) ∙ c .before .before .before .before .if1 .left) (c .before .before .head-at .ensures), phase-below _ _ _ _ _ (sym (c .before .before .before .before .before .refusal-of .ensures) ∙ c .before .before .before .before .if1 .left) (c .before .before .head-at .ensures))
 
--- src/lib.rt:489:1
 same-length-3 : tie.Need-same-length-3
 same-length-3 c = search needs
 
--- src/lib.rt:489:1
 same-length-4 : tie.Need-same-length-4
 same-length-4 c = search needs
 
--- src/lib.rt:489:1
 returns-2 : tie.Need-returns-2
 unfolding abandon
 returns-2 c = simp (eq-eqb _ _ (c .before .before .before .before .before .before .before .before .before .if1 .left), ← c .before .before .before .before .before .before .before .before .before .before .refusal-of .ensures) (c .before .before .before .before .let-go .ensures _ _)

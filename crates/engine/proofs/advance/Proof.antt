@@ -6,54 +6,38 @@ use Rattle.rules.specs.Advance.{advance}
 use Rattle.engine.proofs.Outcomes.{ready, seated}
 use Rattle.engine.proofs.advance.Statement.{statement}
 use Rattle.engine.proofs.advance.Tie as tie
-use Rattle.engine.proofs.advance.Reads as reads
-use Rattle.engine.proofs.advance.Lts as lts
-use Rattle.engine.proofs.advance_in.Reads as advance-in-reads
-use Rattle.engine.proofs.head_at.Reads as head-at-reads
-use Rattle.seats.proofs.refusal_of.Reads as refusal-of-reads
 
--- src/lib.rt:480:9
 refusal-of-requires : tie.Need-refusal-of-requires
 refusal-of-requires c κs = search needs
 
--- src/lib.rt:482:9
 same-length : tie.Need-same-length
 same-length c = search needs
 
--- src/lib.rt:482:9
 same-length-2 : tie.Need-same-length-2
 same-length-2 c = search needs
 
--- src/lib.rt:482:9
 same-length-3 : tie.Need-same-length-3
 same-length-3 c = search needs
 
--- src/lib.rt:482:9
 returns : tie.Need-returns
 unfolding advance
 returns c = simp (ne-eqb _ _ (c .if1 .taken), ← c .before .refusal-of .ensures)
 
--- src/lib.rt:484:9
 head-at-requires : tie.Need-head-at-requires
 head-at-requires c κs = seated _ _ _ _ _ (sym (c .before .before .refusal-of .ensures) ∙ c .before .if1 .left)
 
--- src/lib.rt:485:5
 advance-in-requires : tie.Need-advance-in-requires
 advance-in-requires c κs = ready _ _ _ _ _ (sym (c .before .before .before .before .before .before .refusal-of .ensures) ∙ c .before .before .before .before .before .if1 .left) (c .before .before .before .head-at .ensures)
 
--- src/lib.rt:477:1
 same-length-4 : tie.Need-same-length-4
 same-length-4 c = search needs
 
--- src/lib.rt:477:1
 same-length-5 : tie.Need-same-length-5
 same-length-5 c = search needs
 
--- src/lib.rt:477:1
 same-length-6 : tie.Need-same-length-6
 same-length-6 c = search needs
 
--- src/lib.rt:477:1
 returns-2 : tie.Need-returns-2
 unfolding advance
 returns-2 c = simp (eq-eqb _ _ (c .before .before .before .before .before .before .before .before .before .before .before .before .if1 .left), ← c .before .before .before .before .before .before .before .before .before .before .before .before .before .refusal-of .ensures) (c .before .before .before .before .before .before .advance-in .ensures)

@@ -4,37 +4,26 @@ use borrow.Author.Tests.{le-ltb, lt-ltb}
 use Rattle.rules.specs.Advance.{checkPhase}
 use Rattle.engine.proofs.check_phase.Statement.{statement}
 use Rattle.engine.proofs.check_phase.Tie as tie
-use Rattle.engine.proofs.check_phase.Reads as reads
-use Rattle.engine.proofs.check_phase.Lts as lts
-use Rattle.engine.proofs.check_step.Reads as check-step-reads
-use Rattle.engine.proofs.seal_step.Reads as seal-step-reads
 
--- src/lib.rt:447:9
 check-step-requires : tie.Need-check-step-requires
 check-step-requires c κs = search needs
 
--- src/lib.rt:447:9
 same-length : tie.Need-same-length
 same-length c = search needs
 
--- src/lib.rt:447:9
 same-length-2 : tie.Need-same-length-2
 same-length-2 c = search needs
 
--- src/lib.rt:447:9
 returns : tie.Need-returns
 unfolding checkPhase
 returns c = λ v. simp (← c .before .before .before .before .before .before .before .before .before .before .before .pre .0 .head .position-is, ← c .before .before .before .before .before .before .before .before .before .before .before .pre .0 .head .reads-is, lt-ltb _ _ (c .before .before .before .before .before .before .before .if1 .taken)) (c .before .before .before .before .check-step .ensures v)
 
--- src/lib.rt:449:5
 seal-step-requires : tie.Need-seal-step-requires
 seal-step-requires c κs = search needs
 
--- src/lib.rt:442:1
 same-length-3 : tie.Need-same-length-3
 same-length-3 c = search needs
 
--- src/lib.rt:442:1
 returns-2 : tie.Need-returns-2
 unfolding checkPhase
 returns-2 c = λ v. simp (← c .before .before .before .before .before .before .before .before .pre .0 .head .position-is, ← c .before .before .before .before .before .before .before .before .pre .0 .head .reads-is, le-ltb _ _ (c .before .before .before .before .if1 .left)) (c .before .before .seal-step .ensures v _)

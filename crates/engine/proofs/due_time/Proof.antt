@@ -9,12 +9,6 @@ use Rattle.seats.specs.Loops.{at-end}
 use Rattle.engine.proofs.Folds.{due-more, due-none}
 use Rattle.engine.proofs.due_time.Statement.{statement}
 use Rattle.engine.proofs.due_time.Tie as tie
-use Rattle.engine.proofs.due_time.Reads as reads
-use Rattle.engine.proofs.due_time.Lts as lts
-use Rattle.clock.proofs.read_time.Reads as read-time-reads
-use Rattle.engine.proofs.entry.Reads as entry-reads
-use Rattle.engine.proofs.greater.Reads as greater-reads
-use Rattle.seats.proofs.at.Reads as at-reads
 
 abbrev Inv-loop : tie.InvT-loop
 Inv-loop words row from n time₀ i₀ time i = (i ≤ n) × (time ≡ dueTime words row from i)
@@ -22,43 +16,33 @@ Inv-loop words row from n time₀ i₀ time i = (i ≤ n) × (time ≡ dueTime w
 abbrev μ-loop : tie.MeasureT-loop
 μ-loop words row from n time₀ i₀ time i = n - i
 
--- src/lib.rt:295:5
 loop-holds : tie.Need-loop-holds Inv-loop μ-loop
 loop-holds c = (omega arith, due-none _ _ _)
 
--- src/lib.rt:296:30
 entry-requires : tie.Need-entry-requires Inv-loop μ-loop
 entry-requires c κs = omega arith
 
--- src/lib.rt:296:13
 at-requires : tie.Need-at-requires Inv-loop μ-loop
 at-requires c κs = search needs
 
--- src/lib.rt:297:30
 read-time-requires : tie.Need-read-time-requires Inv-loop μ-loop
 read-time-requires c κs = search needs
 
--- src/lib.rt:297:30
 add-greater : tie.Need-add-greater Inv-loop μ-loop
 add-greater c = omega (arith, c .read-time .ensures, readTime-fits (c .before .at .result))
 
--- src/lib.rt:297:9
 greater-requires : tie.Need-greater-requires Inv-loop μ-loop
 greater-requires c κs = search needs
 
--- src/lib.rt:298:9
 add-i : tie.Need-add-i Inv-loop μ-loop
 add-i c = omega arith
 
--- src/lib.rt:295:5
 loop-less : tie.Need-loop-less Inv-loop μ-loop
 loop-less c = omega arith
 
--- src/lib.rt:295:5
 loop-again : tie.Need-loop-again Inv-loop μ-loop
 loop-again c = (omega arith, due-more _ _ _ _ (c .before .before .before .before .before .loop .inv .1) (c .before .before .before .entry .ensures) (c .before .before .at .ensures) (c .before .read-time .ensures) (c .greater .ensures))
 
--- src/lib.rt:289:1
 returns : tie.Need-returns Inv-loop μ-loop
 returns c = at-end (dueTime _ _ _) _ _ (c .before .loop .inv .1) (c .before .loop .inv .0) (c .loop-test .left)
 

@@ -5,27 +5,19 @@ use Rattle.clock.specs.Laws.{extendedTo-word}
 use Rattle.engine.proofs.Words.{not-refused, the-word}
 use Rattle.engine.proofs.extended_word.Statement.{statement}
 use Rattle.engine.proofs.extended_word.Tie as tie
-use Rattle.engine.proofs.extended_word.Reads as reads
-use Rattle.engine.proofs.extended_word.Lts as lts
-use Rattle.clock.proofs.extend.Reads as extend-reads
 
--- src/lib.rt:347:27
 extend-requires : tie.Need-extend-requires
 extend-requires c κs = search needs
 
--- src/lib.rt:347:22
 enum-known-w : tie.Need-enum-known-w
 enum-known-w c = search needs
 
--- src/lib.rt:348:9
 enum-told : tie.Need-enum-told
 enum-told c = search needs
 
--- src/lib.rt:348:9
 returns : tie.Need-returns
 returns c = let e = c .before .before .extend .ensures ∙ extendedTo-word _ _ (c .before .before .before .pre .0) (c .before .before .before .pre .1) in absurd (not-refused _ e (c .before .match .keys2))
 
--- src/lib.rt:343:1
 returns-2 : tie.Need-returns-2
 returns-2 c = the-word (c .before .before .before .extend .ensures ∙ extendedTo-word _ _ (c .before .before .before .before .pre .0) (c .before .before .before .before .pre .1)) (c .before .w .given .1)
 

@@ -7,9 +7,6 @@ use Rattle.rows.specs.Search.{Passed, found-first, found-none, passed-more, pas
 use Rattle.engine.specs.Ready.{names}
 use Rattle.engine.proofs.find.Statement.{statement}
 use Rattle.engine.proofs.find.Tie as tie
-use Rattle.engine.proofs.find.Reads as reads
-use Rattle.engine.proofs.find.Lts as lts
-use Rattle.engine.proofs.entry.Reads as entry-reads
 
 abbrev Inv-loop : tie.InvT-loop
 Inv-loop row first width n item i₀ i = Passed (names row first width item) n i
@@ -17,33 +14,26 @@ Inv-loop row first width n item i₀ i = Passed (names row first width item) n i
 abbrev μ-loop : tie.MeasureT-loop
 μ-loop row first width n item i₀ i = n - i
 
--- src/lib.rt:66:5
 loop-holds : tie.Need-loop-holds Inv-loop μ-loop
 loop-holds c = passed-none _ _
 
--- src/lib.rt:67:12
 entry-requires : tie.Need-entry-requires Inv-loop μ-loop
 entry-requires c κs = omega (arith, within _ _ _ _ (c .before .before .before .pre .1) (c .before .before .before .pre .2) (c .loop-test .taken))
 
--- src/lib.rt:68:13
 returns : tie.Need-returns Inv-loop μ-loop
 unfolding names
 returns c = sym (found-first _ _ _ (c .before .before .before .loop .inv) (c .before .before .loop-test .taken) (simp (← c .before .entry .ensures, eq-eqb _ _ (c .if1 .taken))))
 
--- src/lib.rt:70:9
 add-i : tie.Need-add-i Inv-loop μ-loop
 add-i c = omega arith
 
--- src/lib.rt:66:5
 loop-less : tie.Need-loop-less Inv-loop μ-loop
 loop-less c = omega arith
 
--- src/lib.rt:66:5
 loop-again : tie.Need-loop-again Inv-loop μ-loop
 unfolding names
 loop-again c = passed-more _ _ _ (c .before .before .before .loop .inv) (c .before .before .loop-test .taken) (simp (← c .before .entry .ensures, ne-eqb _ _ (c .if1 .left)))
 
--- src/lib.rt:61:1
 returns-2 : tie.Need-returns-2 Inv-loop μ-loop
 returns-2 c = sym (found-none _ _ _ (c .before .loop .inv) (c .loop-test .left))
 

@@ -6,43 +6,30 @@ use Rattle.rules.specs.Work.{firstRead}
 use Rattle.engine.proofs.Outcomes.{same}
 use Rattle.engine.proofs.first_read.Statement.{statement}
 use Rattle.engine.proofs.first_read.Tie as tie
-use Rattle.engine.proofs.first_read.Reads as reads
-use Rattle.engine.proofs.first_read.Lts as lts
-use Rattle.clock.proofs.is_locked.Reads as is-locked-reads
-use Rattle.engine.proofs.note_read.Reads as note-read-reads
-use Rattle.seats.proofs.at.Reads as at-reads
 
--- src/lib.rt:92:9
 returns : tie.Need-returns
 unfolding firstRead
 returns c = simp (← c .before .before .before .before .pre .1, le-leb _ _ (c .if1 .taken))
 
--- src/lib.rt:94:9
 at-requires : tie.Need-at-requires
 at-requires c κs = search needs
 
--- src/lib.rt:95:8
 is-locked-requires : tie.Need-is-locked-requires
 is-locked-requires c κs = search needs
 
--- src/lib.rt:96:9
 returns-2 : tie.Need-returns-2
 unfolding firstRead
 returns-2 c = simp (← c .before .before .before .before .before .before .before .pre .1, lt-leb _ _ (c .before .before .before .if1 .left), ← c .before .before .at .ensures, ← c .before .is-locked .ensures, c .if2 .taken)
 
--- src/lib.rt:98:9
 at-requires-2 : tie.Need-at-requires-2
 at-requires-2 c κs = search needs
 
--- src/lib.rt:99:5
 note-read-requires : tie.Need-note-read-requires
 note-read-requires c κs = search needs
 
--- src/lib.rt:87:1
 same-length : tie.Need-same-length
 same-length c = search needs
 
--- src/lib.rt:87:1
 returns-3 : tie.Need-returns-3
 unfolding firstRead
 returns-3 c = simp (← c .before .before .before .before .before .before .before .before .before .before .before .before .pre .1, lt-leb _ _ (c .before .before .before .before .before .before .before .before .if1 .left), ← c .before .before .before .before .before .before .before .at .ensures, ← c .before .before .before .before .before .before .is-locked .ensures, c .before .before .before .before .before .if2 .left, ← c .before .before .before .before .at2 .ensures) (same refl refl refl (c .before .before .note-read .ensures))

@@ -5,27 +5,19 @@ use Rattle.clock.specs.Laws.{freshAt-word}
 use Rattle.engine.proofs.Words.{not-refused, the-word}
 use Rattle.engine.proofs.fresh_word.Statement.{statement}
 use Rattle.engine.proofs.fresh_word.Tie as tie
-use Rattle.engine.proofs.fresh_word.Reads as reads
-use Rattle.engine.proofs.fresh_word.Lts as lts
-use Rattle.clock.proofs.fresh.Reads as fresh-reads
 
--- src/lib.rt:404:27
 fresh-requires : tie.Need-fresh-requires
 fresh-requires c κs = search needs
 
--- src/lib.rt:404:22
 enum-known-w : tie.Need-enum-known-w
 enum-known-w c = search needs
 
--- src/lib.rt:405:9
 enum-told : tie.Need-enum-told
 enum-told c = search needs
 
--- src/lib.rt:405:9
 returns : tie.Need-returns
 returns c = let e = c .before .before .fresh .ensures ∙ freshAt-word _ (c .before .before .before .pre) in absurd (not-refused _ e (c .before .match .keys2))
 
--- src/lib.rt:400:1
 returns-2 : tie.Need-returns-2
 returns-2 c = the-word (c .before .before .before .fresh .ensures ∙ freshAt-word _ (c .before .before .before .before .pre)) (c .before .w .given .1)
 

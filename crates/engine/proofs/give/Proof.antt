@@ -4,34 +4,25 @@ use borrow.Author.Needs.{needs}
 use Rattle.rules.specs.Layout.{put}
 use Rattle.engine.proofs.give.Statement.{statement}
 use Rattle.engine.proofs.give.Tie as tie
-use Rattle.engine.proofs.give.Reads as reads
-use Rattle.engine.proofs.give.Lts as lts
 
--- src/lib.rt:56:27
 mul-k : tie.Need-mul-k
 mul-k c = search needs
 
--- src/lib.rt:56:14
 add-k : tie.Need-add-k
 add-k c = search needs
 
--- src/lib.rt:56:14
 add-k-2 : tie.Need-add-k-2
 add-k-2 c = search needs
 
--- src/lib.rt:57:5
 mul-seats : tie.Need-mul-seats
 mul-seats c = search needs
 
--- src/lib.rt:57:5
 slice-write-seats : tie.Need-slice-write-seats
 slice-write-seats c = search needs
 
--- src/lib.rt:52:1
 same-length : tie.Need-same-length
 same-length c = search needs
 
--- src/lib.rt:52:1
 returns : tie.Need-returns
 unfolding put
 returns c = refl

@@ -4,20 +4,13 @@ use borrow.Author.Needs.{needs}
 use Rattle.seats.specs.Heads.{headOf}
 use Rattle.engine.proofs.head_at.Statement.{statement}
 use Rattle.engine.proofs.head_at.Tie as tie
-use Rattle.engine.proofs.head_at.Reads as reads
-use Rattle.engine.proofs.head_at.Lts as lts
-use Rattle.engine.proofs.row_of.Reads as row-of-reads
-use Rattle.seats.proofs.head_of.Reads as head-of-reads
 
--- src/lib.rt:40:13
 row-of-requires : tie.Need-row-of-requires
 row-of-requires c κs = search needs
 
--- src/lib.rt:40:5
 head-of-requires : tie.Need-head-of-requires
 head-of-requires c κs = search needs
 
--- src/lib.rt:36:1
 returns : tie.Need-returns
 returns c = c .head-of .ensures ∙ ap headOf (c .before .row-of .ensures .0)
 

@@ -2,14 +2,10 @@
 use borrow.Author.Tests.{eq-eqb, ne-eqb}
 use Rattle.engine.proofs.held_locks.Statement.{statement}
 use Rattle.engine.proofs.held_locks.Tie as tie
-use Rattle.engine.proofs.held_locks.Reads as reads
-use Rattle.engine.proofs.held_locks.Lts as lts
 
--- src/lib.rt:219:9
 returns : tie.Need-returns
 returns c = simp (eq-eqb _ _ (c .if1 .taken))
 
--- src/lib.rt:215:1
 returns-2 : tie.Need-returns-2
 returns-2 c = simp (ne-eqb _ _ (c .if1 .left))
 

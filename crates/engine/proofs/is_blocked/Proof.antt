@@ -2,14 +2,10 @@
 use borrow.Author.Needs.{needs}
 use Rattle.engine.proofs.is_blocked.Statement.{statement}
 use Rattle.engine.proofs.is_blocked.Tie as tie
-use Rattle.engine.proofs.is_blocked.Reads as reads
-use Rattle.engine.proofs.is_blocked.Lts as lts
 
--- src/lib.rt:337:1
 returns : tie.Need-returns
 returns c = simp (c .if1 .taken)
 
--- src/lib.rt:337:1
 returns-2 : tie.Need-returns-2
 returns-2 c = search needs
 

@@ -4,18 +4,10 @@ use borrow.Author.Tests.{eq-eqb, le-ltb, lt-ltb, ne-eqb}
 use Rattle.engine.specs.Ready.{wordVerdict}
 use Rattle.engine.proofs.judge.Statement.{statement}
 use Rattle.engine.proofs.judge.Tie as tie
-use Rattle.engine.proofs.judge.Reads as reads
-use Rattle.engine.proofs.judge.Lts as lts
-use Rattle.clock.proofs.is_locked.Reads as is-locked-reads
-use Rattle.clock.proofs.read_time.Reads as read-time-reads
-use Rattle.clock.proofs.write_time.Reads as write-time-reads
-use Rattle.engine.proofs.is_blocked.Reads as is-blocked-reads
 
--- src/lib.rt:321:8
 write-time-requires : tie.Need-write-time-requires
 write-time-requires c κs = search needs
 
--- src/lib.rt:322:9
 returns : tie.Need-returns
 unfolding wordVerdict
 returns c = simp (
@@ -23,7 +15,6 @@ returns c = simp (
   ← c .before .write-time .ensures,
 )
 
--- src/lib.rt:325:9
 returns-2 : tie.Need-returns-2
 unfolding wordVerdict
 returns-2 c = simp (
@@ -32,19 +23,15 @@ returns-2 c = simp (
   ← c .before .before .write-time .ensures,
 )
 
--- src/lib.rt:327:9
 read-time-requires : tie.Need-read-time-requires
 read-time-requires c κs = search needs
 
--- src/lib.rt:328:19
 is-locked-requires : tie.Need-is-locked-requires
 is-locked-requires c κs = search needs
 
--- src/lib.rt:328:8
 is-blocked-requires : tie.Need-is-blocked-requires
 is-blocked-requires c κs = search needs
 
--- src/lib.rt:329:9
 returns-3 : tie.Need-returns-3
 unfolding wordVerdict
 returns-3 c = simp (
@@ -57,7 +44,6 @@ returns-3 c = simp (
   ← c .before .before .before .before .before .before .write-time .ensures,
 )
 
--- src/lib.rt:332:9
 returns-4 : tie.Need-returns-4
 unfolding wordVerdict
 returns-4 c = simp (
@@ -71,7 +57,6 @@ returns-4 c = simp (
   ← c .before .before .before .before .before .before .before .write-time .ensures,
 )
 
--- src/lib.rt:318:1
 returns-5 : tie.Need-returns-5
 unfolding wordVerdict
 returns-5 c = simp (

@@ -4,41 +4,29 @@ use borrow.Author.Tests.{le-ltb, lt-ltb}
 use Rattle.rules.specs.Advance.{lockPhase}
 use Rattle.engine.proofs.lock_phase.Statement.{statement}
 use Rattle.engine.proofs.lock_phase.Tie as tie
-use Rattle.engine.proofs.lock_phase.Reads as reads
-use Rattle.engine.proofs.lock_phase.Lts as lts
-use Rattle.engine.proofs.lock_step.Reads as lock-step-reads
-use Rattle.engine.proofs.time_step.Reads as time-step-reads
 
--- src/lib.rt:437:9
 lock-step-requires : tie.Need-lock-step-requires
 lock-step-requires c κs = search needs
 
--- src/lib.rt:437:9
 same-length : tie.Need-same-length
 same-length c = search needs
 
--- src/lib.rt:437:9
 same-length-2 : tie.Need-same-length-2
 same-length-2 c = search needs
 
--- src/lib.rt:437:9
 returns : tie.Need-returns
 unfolding lockPhase
 returns c = λ v. simp (← c .before .before .before .before .before .before .before .before .before .before .before .pre .0 .head .position-is, ← c .before .before .before .before .before .before .before .before .before .before .before .pre .0 .head .writes-is, lt-ltb _ _ (c .before .before .before .before .before .before .before .if1 .taken)) (c .before .before .before .before .lock-step .ensures v)
 
--- src/lib.rt:439:5
 time-step-requires : tie.Need-time-step-requires
 time-step-requires c κs = search needs
 
--- src/lib.rt:432:1
 same-length-3 : tie.Need-same-length-3
 same-length-3 c = search needs
 
--- src/lib.rt:432:1
 same-length-4 : tie.Need-same-length-4
 same-length-4 c = search needs
 
--- src/lib.rt:432:1
 returns-2 : tie.Need-returns-2
 unfolding lockPhase
 returns-2 c = λ v. simp (← c .before .before .before .before .before .before .before .before .before .before .before .pre .0 .head .position-is, ← c .before .before .before .before .before .before .before .before .before .before .before .pre .0 .head .writes-is, le-ltb _ _ (c .before .before .before .before .before .before .before .if1 .left)) (c .before .before .before .before .time-step .ensures v)

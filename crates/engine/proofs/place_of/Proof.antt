@@ -7,9 +7,6 @@ use Rattle.rules.specs.Work.{above}
 use Rattle.rows.specs.Search.{Passed, found-first, found-none, passed-more, passed-none}
 use Rattle.engine.proofs.place_of.Statement.{statement}
 use Rattle.engine.proofs.place_of.Tie as tie
-use Rattle.engine.proofs.place_of.Reads as reads
-use Rattle.engine.proofs.place_of.Lts as lts
-use Rattle.engine.proofs.entry.Reads as entry-reads
 
 abbrev Inv-loop : tie.InvT-loop
 Inv-loop row n item i₀ i = Passed (above row item) n i
@@ -17,33 +14,26 @@ Inv-loop row n item i₀ i = Passed (above row item) n i
 abbrev μ-loop : tie.MeasureT-loop
 μ-loop row n item i₀ i = n - i
 
--- src/lib.rt:138:5
 loop-holds : tie.Need-loop-holds Inv-loop μ-loop
 loop-holds c = passed-none _ _
 
--- src/lib.rt:139:19
 entry-requires : tie.Need-entry-requires Inv-loop μ-loop
 entry-requires c κs = omega arith
 
--- src/lib.rt:140:13
 returns : tie.Need-returns Inv-loop μ-loop
 unfolding above
 returns c = sym (found-first _ _ _ (c .before .before .before .loop .inv) (c .before .before .loop-test .taken) (simp (← c .before .entry .ensures, lt-ltb _ _ (c .if1 .taken))))
 
--- src/lib.rt:142:9
 add-i : tie.Need-add-i Inv-loop μ-loop
 add-i c = omega arith
 
--- src/lib.rt:138:5
 loop-less : tie.Need-loop-less Inv-loop μ-loop
 loop-less c = omega arith
 
--- src/lib.rt:138:5
 loop-again : tie.Need-loop-again Inv-loop μ-loop
 unfolding above
 loop-again c = passed-more _ _ _ (c .before .before .before .loop .inv) (c .before .before .loop-test .taken) (simp (← c .before .entry .ensures, le-ltb _ _ (c .if1 .left)))
 
--- src/lib.rt:133:1
 returns-2 : tie.Need-returns-2 Inv-loop μ-loop
 returns-2 c = sym (found-none _ _ _ (c .before .loop .inv) (c .loop-test .left))
 

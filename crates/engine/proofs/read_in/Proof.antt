@@ -5,60 +5,42 @@ use Rattle.rules.specs.Work.{readIn}
 use Rattle.engine.proofs.Entries.{read-of, write-of}
 use Rattle.engine.proofs.read_in.Statement.{statement}
 use Rattle.engine.proofs.read_in.Tie as tie
-use Rattle.engine.proofs.read_in.Reads as reads
-use Rattle.engine.proofs.read_in.Lts as lts
-use Rattle.engine.proofs.entry.Reads as entry-reads
-use Rattle.engine.proofs.find.Reads as find-reads
-use Rattle.engine.proofs.first_read.Reads as first-read-reads
-use Rattle.engine.proofs.row_of.Reads as row-of-reads
 
--- src/lib.rt:107:9
 row-of-requires : tie.Need-row-of-requires
 row-of-requires c κs = search needs
 
--- src/lib.rt:108:9
 find-requires : tie.Need-find-requires
 find-requires c κs = search needs
 
--- src/lib.rt:110:30
 entry-requires : tie.Need-entry-requires
 entry-requires c κs = search needs
 
--- src/lib.rt:110:9
 same-length : tie.Need-same-length
 same-length c = search needs
 
--- src/lib.rt:110:9
 returns : tie.Need-returns
 unfolding readIn
 returns c = simp (write-of (c .before .before .before .before .row-of .ensures .0) _ (c .before .before .before .before .before .before .before .before .before .pre .head .writes-is) (c .before .before .before .find .ensures), ← c .before .before .before .before .before .before .before .before .before .pre .head .writes-is, lt-ltb _ _ (c .before .if1 .taken), c .entry .ensures, c .before .before .before .before .row-of .ensures .0)
 
--- src/lib.rt:112:9
 find-requires-2 : tie.Need-find-requires-2
 find-requires-2 c κs = search needs
 
--- src/lib.rt:114:30
 entry-requires-2 : tie.Need-entry-requires-2
 entry-requires-2 c κs = search needs
 
--- src/lib.rt:114:9
 same-length-2 : tie.Need-same-length-2
 same-length-2 c = search needs
 
--- src/lib.rt:114:9
 returns-2 : tie.Need-returns-2
 unfolding readIn
 returns-2 c = simp (write-of (c .before .before .before .before .before .before .before .row-of .ensures .0) _ (c .before .before .before .before .before .before .before .before .before .before .before .before .pre .head .writes-is) (c .before .before .before .before .before .before .find .ensures), ← c .before .before .before .before .before .before .before .before .before .before .before .before .pre .head .writes-is, le-ltb _ _ (c .before .before .before .before .if1 .left), read-of (c .before .before .before .before .before .before .before .row-of .ensures .0) _ (c .before .before .before .before .before .before .before .before .before .before .before .before .pre .head .reads-is) (c .before .before .before .find2 .ensures), ← c .before .before .before .before .before .before .before .before .before .before .before .before .pre .head .reads-is, lt-ltb _ _ (c .before .if2 .taken), c .entry2 .ensures, c .before .before .before .before .before .before .before .row-of .ensures .0)
 
--- src/lib.rt:116:5
 first-read-requires : tie.Need-first-read-requires
 first-read-requires c κs = search needs
 
--- src/lib.rt:103:1
 same-length-3 : tie.Need-same-length-3
 same-length-3 c = search needs
 
--- src/lib.rt:103:1
 returns-3 : tie.Need-returns-3
 unfolding readIn
 returns-3 c = simp (write-of (c .before .before .before .before .before .before .before .before .before .before .row-of .ensures .0) _ (c .before .before .before .before .before .before .before .before .before .before .before .before .before .before .before .pre .head .writes-is) (c .before .before .before .before .before .before .before .before .before .find .ensures), ← c .before .before .before .before .before .before .before .before .before .before .before .before .before .before .before .pre .head .writes-is, le-ltb _ _ (c .before .before .before .before .before .before .before .if1 .left), read-of (c .before .before .before .before .before .before .before .before .before .before .row-of .ensures .0) _ (c .before .before .before .before .before .before .before .before .before .before .before .before .before .before .before .pre .head .reads-is) (c .before .before .before .before .before .before .find2 .ensures), ← c .before .before .before .before .before .before .before .before .before .before .before .before .before .before .before .pre .head .reads-is, le-ltb _ _ (c .before .before .before .before .if2 .left)) (c .before .before .first-read .ensures)

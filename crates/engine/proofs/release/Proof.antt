@@ -9,12 +9,6 @@ use Rattle.seats.specs.Loops.{at-end}
 use Rattle.engine.proofs.Folds.{released-more, released-none}
 use Rattle.engine.proofs.release.Statement.{statement}
 use Rattle.engine.proofs.release.Tie as tie
-use Rattle.engine.proofs.release.Reads as reads
-use Rattle.engine.proofs.release.Lts as lts
-use Rattle.clock.proofs.unlock.Reads as unlock-reads
-use Rattle.engine.proofs.entry.Reads as entry-reads
-use Rattle.seats.proofs.at.Reads as at-reads
-use Rattle.seats.proofs.store.Reads as store-reads
 
 abbrev Inv-loop : tie.InvT-loop
 Inv-loop words₀ row n i₀ words i = (i ≤ n) × (length words ≡ length words₀) × (words ≡ released words₀ row i)
@@ -22,44 +16,34 @@ Inv-loop words₀ row n i₀ words i = (i ≤ n) × (length words ≡ length wor
 abbrev μ-loop : tie.MeasureT-loop
 μ-loop words₀ row n i₀ words i = n - i
 
--- src/lib.rt:207:5
 loop-holds : tie.Need-loop-holds Inv-loop μ-loop
 loop-holds c = (omega arith, refl, released-none _ _)
 
--- src/lib.rt:208:13
 entry-requires : tie.Need-entry-requires Inv-loop μ-loop
 entry-requires c κs = omega arith
 
--- src/lib.rt:209:13
 at-requires : tie.Need-at-requires Inv-loop μ-loop
 at-requires c κs = search needs
 
--- src/lib.rt:210:28
 unlock-requires : tie.Need-unlock-requires Inv-loop μ-loop
 unlock-requires c κs = search needs
 
--- src/lib.rt:210:9
 store-requires : tie.Need-store-requires Inv-loop μ-loop
 store-requires c κs = search needs
 
--- src/lib.rt:211:9
 add-i : tie.Need-add-i Inv-loop μ-loop
 add-i c = omega arith
 
--- src/lib.rt:207:5
 loop-less : tie.Need-loop-less Inv-loop μ-loop
 loop-less c = omega arith
 
--- src/lib.rt:207:5
 loop-again : tie.Need-loop-again Inv-loop μ-loop
 loop-again c = let i = c .before .before .before .before .before .before .before .before .before .loop .inv in
     (omega arith, c .before .before .store .kept .0 ∙ i .1, released-more _ _ _ (i .2) (c .before .before .before .before .before .before .before .entry .ensures) (c .before .before .before .before .before .at .ensures) (c .before .before .before .unlock .ensures) (c .before .before .store .ensures))
 
--- src/lib.rt:202:1
 same-length : tie.Need-same-length Inv-loop μ-loop
 same-length c = c .before .loop .inv .1
 
--- src/lib.rt:202:1
 returns : tie.Need-returns Inv-loop μ-loop
 returns c = at-end (released _ _) _ _ (c .before .loop .inv .2) (c .before .loop .inv .0) (c .loop-test .left)
 

@@ -5,38 +5,28 @@ use Rattle.rules.specs.Layout.{row}
 use Rattle.rules.specs.Places.{length-row}
 use Rattle.engine.proofs.row_of.Statement.{statement}
 use Rattle.engine.proofs.row_of.Tie as tie
-use Rattle.engine.proofs.row_of.Reads as reads
-use Rattle.engine.proofs.row_of.Lts as lts
 
--- src/lib.rt:31:30
 mul-from : tie.Need-mul-from
 mul-from c = search needs
 
--- src/lib.rt:31:17
 add-from : tie.Need-add-from
 add-from c = search needs
 
--- src/lib.rt:32:14
 add-to : tie.Need-add-to
 add-to c = search needs
 
--- src/lib.rt:33:5
 mul-result : tie.Need-mul-result
 mul-result c = search needs
 
--- src/lib.rt:33:5
 sub-result : tie.Need-sub-result
 sub-result c = search needs
 
--- src/lib.rt:33:5
 part-result-start : tie.Need-part-result-start
 part-result-start c = search needs
 
--- src/lib.rt:33:5
 part-result-end : tie.Need-part-result-end
 part-result-end c = search needs
 
--- src/lib.rt:27:1
 returns : tie.Need-returns
 unfolding row
 returns c = let e = length-row _ _ (c .before .pre .long) (c .before .pre .seat-in) in (rw add-sub-cancel-left, rw add-sub-cancel-left e)

@@ -8,10 +8,6 @@ use Rattle.seats.specs.Loops.{at-end}
 use Rattle.engine.proofs.Folds.{seen-more, seen-none}
 use Rattle.engine.proofs.seen_time.Statement.{statement}
 use Rattle.engine.proofs.seen_time.Tie as tie
-use Rattle.engine.proofs.seen_time.Reads as reads
-use Rattle.engine.proofs.seen_time.Lts as lts
-use Rattle.engine.proofs.entry.Reads as entry-reads
-use Rattle.engine.proofs.greater.Reads as greater-reads
 
 abbrev Inv-loop : tie.InvT-loop
 Inv-loop row n time₀ i₀ time i = (i ≤ n) × (time ≡ seenTime row i)
@@ -19,31 +15,24 @@ Inv-loop row n time₀ i₀ time i = (i ≤ n) × (time ≡ seenTime row i)
 abbrev μ-loop : tie.MeasureT-loop
 μ-loop row n time₀ i₀ time i = n - i
 
--- src/lib.rt:281:5
 loop-holds : tie.Need-loop-holds Inv-loop μ-loop
 loop-holds c = (omega arith, seen-none _)
 
--- src/lib.rt:282:30
 entry-requires : tie.Need-entry-requires Inv-loop μ-loop
 entry-requires c κs = omega arith
 
--- src/lib.rt:282:9
 greater-requires : tie.Need-greater-requires Inv-loop μ-loop
 greater-requires c κs = search needs
 
--- src/lib.rt:283:9
 add-i : tie.Need-add-i Inv-loop μ-loop
 add-i c = omega arith
 
--- src/lib.rt:281:5
 loop-less : tie.Need-loop-less Inv-loop μ-loop
 loop-less c = omega arith
 
--- src/lib.rt:281:5
 loop-again : tie.Need-loop-again Inv-loop μ-loop
 loop-again c = (omega arith, seen-more _ _ (c .before .before .before .loop .inv .1) (c .before .entry .ensures) (c .greater .ensures))
 
--- src/lib.rt:275:1
 returns : tie.Need-returns Inv-loop μ-loop
 returns c = at-end (seenTime _) _ _ (c .before .loop .inv .1) (c .before .loop .inv .0) (c .loop-test .left)
 

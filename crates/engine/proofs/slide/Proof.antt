@@ -10,10 +10,6 @@ use Rattle.engine.proofs.Outcomes.{still}
 use Rattle.engine.proofs.Slides.{slid-end, slid-more, slid-none}
 use Rattle.engine.proofs.slide.Statement.{statement}
 use Rattle.engine.proofs.slide.Tie as tie
-use Rattle.engine.proofs.slide.Reads as reads
-use Rattle.engine.proofs.slide.Lts as lts
-use Rattle.engine.proofs.give.Reads as give-reads
-use Rattle.seats.proofs.at.Reads as at-reads
 
 abbrev Inv-loop : tie.InvT-loop
 Inv-loop seats₀ seat from to p₀ seats p = (from ≤ p) × (p ≤ to) × (length seats ≡ length seats₀) × (seats ≡ slid seats₀ seat to writeWidth (to - p))
@@ -21,52 +17,40 @@ Inv-loop seats₀ seat from to p₀ seats p = (from ≤ p) × (p ≤ to) × (len
 abbrev μ-loop : tie.MeasureT-loop
 μ-loop seats₀ seat from to p₀ seats p = p
 
--- src/lib.rt:153:5
 loop-holds : tie.Need-loop-holds Inv-loop μ-loop
 loop-holds c = (omega arith, omega arith, refl, slid-none _ _ _ _ (omega arith) (c .before .pre .2))
 
--- src/lib.rt:154:9
 sub-p : tie.Need-sub-p Inv-loop μ-loop
 sub-p c = omega arith
 
--- src/lib.rt:155:40
 mul-at : tie.Need-mul-at Inv-loop μ-loop
 mul-at c = omega arith
 
--- src/lib.rt:155:27
 add-at : tie.Need-add-at Inv-loop μ-loop
 add-at c = omega arith
 
--- src/lib.rt:155:27
 add-at-2 : tie.Need-add-at-2 Inv-loop μ-loop
 add-at-2 c = omega arith
 
--- src/lib.rt:155:13
 at-requires : tie.Need-at-requires Inv-loop μ-loop
 at-requires c κs = search needs
 
--- src/lib.rt:156:27
 add-give : tie.Need-add-give Inv-loop μ-loop
 add-give c = omega arith
 
--- src/lib.rt:156:9
 give-requires : tie.Need-give-requires Inv-loop μ-loop
 give-requires c κs = (still (c .before .before .before .before .before .before .pre .0) (c .before .before .before .before .loop .inv .2), omega arith)
 
--- src/lib.rt:153:5
 loop-less : tie.Need-loop-less Inv-loop μ-loop
 loop-less c = omega arith
 
--- src/lib.rt:153:5
 loop-again : tie.Need-loop-again Inv-loop μ-loop
 loop-again c = let i = c .before .before .before .before .before .before .before .loop .inv in
     (omega arith, omega arith, c .before .before .give .kept .0 ∙ i .2, slid-more _ _ _ _ (omega arith) (c .before .before .before .before .before .before .before .before .before .pre .2) _ (omega arith) (i .1) (i .3) (c .before .before .before .before .at .ensures) (c .before .before .give .ensures))
 
--- src/lib.rt:148:1
 same-length : tie.Need-same-length Inv-loop μ-loop
 same-length c = c .before .loop .inv .2
 
--- src/lib.rt:148:1
 returns : tie.Need-returns Inv-loop μ-loop
 returns c = slid-end _ _ _ _ _ _ (c .loop-test .left) (c .before .loop .inv .0) (c .before .loop .inv .3)
 

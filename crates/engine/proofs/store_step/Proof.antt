@@ -8,59 +8,40 @@ use Rattle.engine.proofs.Entries.{entry-at}
 use Rattle.engine.proofs.Outcomes.{same}
 use Rattle.engine.proofs.store_step.Statement.{statement}
 use Rattle.engine.proofs.store_step.Tie as tie
-use Rattle.engine.proofs.store_step.Reads as reads
-use Rattle.engine.proofs.store_step.Lts as lts
-use Rattle.engine.proofs.entry.Reads as entry-reads
-use Rattle.engine.proofs.fresh_word.Reads as fresh-word-reads
-use Rattle.engine.proofs.give.Reads as give-reads
-use Rattle.engine.proofs.row_of.Reads as row-of-reads
-use Rattle.seats.proofs.store.Reads as store-reads
 
--- src/lib.rt:414:9
 row-of-requires : tie.Need-row-of-requires
 row-of-requires c κs = search needs
 
--- src/lib.rt:415:9
 entry-requires : tie.Need-entry-requires
 entry-requires c κs = search needs
 
--- src/lib.rt:416:9
 entry-requires-2 : tie.Need-entry-requires-2
 entry-requires-2 c κs = search needs
 
--- src/lib.rt:417:5
 store-requires : tie.Need-store-requires
 store-requires c κs = search needs
 
--- src/lib.rt:418:24
 fresh-word-requires : tie.Need-fresh-word-requires
 fresh-word-requires c κs = omega (arith, c .before .before .before .before .before .before .before .before .before .before .before .before .pre .0 .head .phase-is, c .before .before .before .before .before .before .before .before .before .before .before .before .pre .0 .head .time-is, time-top _ _ (c .before .before .before .before .before .before .before .before .before .before .before .before .pre .0 .sound) (omega arith))
 
--- src/lib.rt:418:5
 store-requires-2 : tie.Need-store-requires-2
 store-requires-2 c κs = search needs
 
--- src/lib.rt:419:33
 add-give : tie.Need-add-give
 add-give c = search needs
 
--- src/lib.rt:419:5
 give-requires : tie.Need-give-requires
 give-requires c κs = search needs
 
--- src/lib.rt:410:1
 same-length : tie.Need-same-length
 same-length c = search needs
 
--- src/lib.rt:410:1
 same-length-2 : tie.Need-same-length-2
 same-length-2 c = search needs
 
--- src/lib.rt:410:1
 same-length-3 : tie.Need-same-length-3
 same-length-3 c = search needs
 
--- src/lib.rt:410:1
 returns : tie.Need-returns
 unfolding storeStep effect
 returns c = simp (← c .before .before .before .before .before .before .before .before .before .before .before .before .before .before .before .before .before .before .before .before .before .pre .0 .head .position-is, ← c .before .before .before .before .before .before .before .before .before .before .before .before .before .before .before .before .before .before .before .before .before .pre .0 .head .time-is, entry-at (c .before .before .before .before .before .before .before .before .before .before .before .before .before .before .before .before .row-of .ensures .0) _ (c .before .before .before .before .before .before .before .before .before .before .before .before .before .before .before .entry .ensures), entry-at (c .before .before .before .before .before .before .before .before .before .before .before .before .before .before .before .before .row-of .ensures .0) _ (c .before .before .before .before .before .before .before .before .before .before .before .before .before .before .entry2 .ensures), ← c .before .before .before .before .before .before .before .before .fresh-word .ensures) (same refl (c .before .before .before .before .before .before .before .before .before .before .before .before .store .ensures) (c .before .before .before .before .before .before .before .store2 .ensures) (c .before .before .give .ensures))

@@ -7,66 +7,44 @@ use Rattle.engine.proofs.Entries.{commit-is}
 use Rattle.engine.proofs.Outcomes.{next, same}
 use Rattle.engine.proofs.time_step.Statement.{statement}
 use Rattle.engine.proofs.time_step.Tie as tie
-use Rattle.engine.proofs.time_step.Reads as reads
-use Rattle.engine.proofs.time_step.Lts as lts
-use Rattle.clock.proofs.top.Reads as top-reads
-use Rattle.engine.proofs.abort.Reads as abort-reads
-use Rattle.engine.proofs.due_time.Reads as due-time-reads
-use Rattle.engine.proofs.give.Reads as give-reads
-use Rattle.engine.proofs.move_to.Reads as move-to-reads
-use Rattle.engine.proofs.row_of.Reads as row-of-reads
-use Rattle.engine.proofs.seen_time.Reads as seen-time-reads
 
--- src/lib.rt:307:9
 row-of-requires : tie.Need-row-of-requires
 row-of-requires c κs = search needs
 
--- src/lib.rt:308:37
 seen-time-requires : tie.Need-seen-time-requires
 seen-time-requires c κs = search needs
 
--- src/lib.rt:308:9
 due-time-requires : tie.Need-due-time-requires
 due-time-requires c κs = search needs
 
--- src/lib.rt:309:8
 top-requires : tie.Need-top-requires
 top-requires c κs = search needs
 
--- src/lib.rt:310:9
 abort-requires : tie.Need-abort-requires
 abort-requires c κs = search needs
 
--- src/lib.rt:310:9
 same-length : tie.Need-same-length
 same-length c = search needs
 
--- src/lib.rt:310:9
 same-length-2 : tie.Need-same-length-2
 same-length-2 c = search needs
 
--- src/lib.rt:310:9
 returns : tie.Need-returns
 unfolding timeStep
 returns c = λ v. simp (commit-is (c .before .before .before .before .before .before .before .before .before .before .before .before .row-of .ensures .0) _ (c .before .before .before .before .before .before .before .before .before .before .before .before .before .before .before .before .pre .0 .head .reads-is) (c .before .before .before .before .before .before .before .before .before .before .before .before .before .before .before .before .pre .0 .head .writes-is) (c .before .before .before .before .before .before .before .before .before .before .seen-time .ensures) (c .before .before .before .before .before .before .before .before .before .due-time .ensures), ← c .before .before .before .before .before .before .before .before .top .ensures, lt-ltb _ _ (c .before .before .before .before .before .before .before .if1 .taken)) (c .before .before .before .before .abort .ensures v)
 
--- src/lib.rt:312:5
 move-to-requires : tie.Need-move-to-requires
 move-to-requires c κs = search needs
 
--- src/lib.rt:313:5
 give-requires : tie.Need-give-requires
 give-requires c κs = search needs
 
--- src/lib.rt:303:1
 same-length-3 : tie.Need-same-length-3
 same-length-3 c = search needs
 
--- src/lib.rt:303:1
 same-length-4 : tie.Need-same-length-4
 same-length-4 c = search needs
 
--- src/lib.rt:303:1
 returns-2 : tie.Need-returns-2
 unfolding timeStep
 returns-2 c = λ v. simp (commit-is (c .before .before .before .before .before .before .before .before .before .before .before .before .before .row-of .ensures .0) _ (c .before .before .before .before .before .before .before .before .before .before .before .before .before .before .before .before .before .pre .0 .head .reads-is) (c .before .before .before .before .before .before .before .before .before .before .before .before .before .before .before .before .before .pre .0 .head .writes-is) (c .before .before .before .before .before .before .before .before .before .before .before .seen-time .ensures) (c .before .before .before .before .before .before .before .before .before .before .due-time .ensures), ← c .before .before .before .before .before .before .before .before .before .top .ensures, le-ltb _ _ (c .before .before .before .before .before .before .before .before .if1 .left)) (same refl refl refl (next _ _ _ (c .before .before .give .ensures) (c .before .before .before .before .before .before .move-to .ensures) refl))

@@ -9,68 +9,48 @@ use Rattle.engine.proofs.Entries.{place-of, write-of}
 use Rattle.engine.proofs.Outcomes.{same}
 use Rattle.engine.proofs.write_in.Statement.{statement}
 use Rattle.engine.proofs.write_in.Tie as tie
-use Rattle.engine.proofs.write_in.Reads as reads
-use Rattle.engine.proofs.write_in.Lts as lts
-use Rattle.engine.proofs.find.Reads as find-reads
-use Rattle.engine.proofs.give.Reads as give-reads
-use Rattle.engine.proofs.place.Reads as place-reads
-use Rattle.engine.proofs.place_of.Reads as place-of-reads
-use Rattle.engine.proofs.row_of.Reads as row-of-reads
 
--- src/lib.rt:174:9
 row-of-requires : tie.Need-row-of-requires
 row-of-requires c κs = search needs
 
--- src/lib.rt:175:9
 find-requires : tie.Need-find-requires
 find-requires c κs = search needs
 
--- src/lib.rt:177:41
 mul-give : tie.Need-mul-give
 mul-give c = search needs
 
--- src/lib.rt:177:27
 add-give : tie.Need-add-give
 add-give c = search needs
 
--- src/lib.rt:177:9
 give-requires : tie.Need-give-requires
 give-requires c κs = search needs
 
--- src/lib.rt:178:9
 same-length : tie.Need-same-length
 same-length c = search needs
 
--- src/lib.rt:178:9
 returns : tie.Need-returns
 unfolding writeIn
-returns c = λ v w. simp (write-of (c .before .before .before .before .before .before .before .row-of .ensures .0) _ (c .before .before .before .before .before .before .before .before .before .before .pre .head .writes-is) (c .before .before .before .before .before .before .find .ensures), ← c .before .before .before .before .before .before .before .before .before .before .pre .head .writes-is, lt-ltb _ _ (c .before .before .before .before .if1 .taken)) (same refl refl refl (c .before .before .give .ensures))
+returns c = λ v w. simp (write-of (c .before .before .before .before .before .before .before .row-of .ensures .0) _ (c .before .before .before .before .before .before .before .before .before .before .pre .1 .writes-is) (c .before .before .before .before .before .before .find .ensures), ← c .before .before .before .before .before .before .before .before .before .before .pre .1 .writes-is, lt-ltb _ _ (c .before .before .before .before .if1 .taken)) (same refl refl refl (c .before .before .give .ensures))
 
--- src/lib.rt:181:9
 same-length-2 : tie.Need-same-length-2
 same-length-2 c = search needs
 
--- src/lib.rt:181:9
 returns-2 : tie.Need-returns-2
 unfolding writeIn
-returns-2 c = λ v w. simp (write-of (c .before .before .before .before .before .row-of .ensures .0) _ (c .before .before .before .before .before .before .before .before .pre .head .writes-is) (c .before .before .before .before .find .ensures), ← c .before .before .before .before .before .before .before .before .pre .head .writes-is, le-ltb _ _ (c .before .before .if1 .left), le-leb _ _ (c .if2 .taken))
+returns-2 c = λ v w. simp (write-of (c .before .before .before .before .before .row-of .ensures .0) _ (c .before .before .before .before .before .before .before .before .pre .1 .writes-is) (c .before .before .before .before .find .ensures), ← c .before .before .before .before .before .before .before .before .pre .1 .writes-is, le-ltb _ _ (c .before .before .if1 .left), le-leb _ _ (c .if2 .taken))
 
--- src/lib.rt:183:9
 place-of-requires : tie.Need-place-of-requires
 place-of-requires c κs = search needs
 
--- src/lib.rt:184:5
 place-requires : tie.Need-place-requires
-place-requires c κs = (c .before .before .before .before .before .before .before .before .before .before .pre .seated, c .before .before .before .before .before .before .before .before .before .before .pre .head .writes-is, omega arith, rw (c .before .place-of .ensures) (first-le _ _))
+place-requires c κs = (c .before .before .before .before .before .before .before .before .before .before .pre .0, c .before .before .before .before .before .before .before .before .before .before .pre .1 .writes-is, omega arith, rw (c .before .place-of .ensures) (first-le _ _))
 
--- src/lib.rt:170:1
 same-length-3 : tie.Need-same-length-3
 same-length-3 c = search needs
 
--- src/lib.rt:170:1
 returns-3 : tie.Need-returns-3
 unfolding writeIn
-returns-3 c = λ v w. simp (write-of (c .before .before .before .before .before .before .before .before .before .before .row-of .ensures .0) _ (c .before .before .before .before .before .before .before .before .before .before .before .before .before .pre .head .writes-is) (c .before .before .before .before .before .before .before .before .before .find .ensures), ← c .before .before .before .before .before .before .before .before .before .before .before .before .before .pre .head .writes-is, le-ltb _ _ (c .before .before .before .before .before .before .before .if1 .left), lt-leb _ _ (c .before .before .before .before .before .if2 .left), place-of (c .before .before .before .before .before .before .before .before .before .before .row-of .ensures .0) _ (c .before .before .before .before .before .before .before .before .before .before .before .before .before .pre .head .writes-is) (c .before .before .before .before .place-of .ensures)) (same refl refl refl (c .before .before .place .ensures))
+returns-3 c = λ v w. simp (write-of (c .before .before .before .before .before .before .before .before .before .before .row-of .ensures .0) _ (c .before .before .before .before .before .before .before .before .before .before .before .before .before .pre .1 .writes-is) (c .before .before .before .before .before .before .before .before .before .find .ensures), ← c .before .before .before .before .before .before .before .before .before .before .before .before .before .pre .1 .writes-is, le-ltb _ _ (c .before .before .before .before .before .before .before .if1 .left), lt-leb _ _ (c .before .before .before .before .before .if2 .left), place-of (c .before .before .before .before .before .before .before .before .before .before .row-of .ensures .0) _ (c .before .before .before .before .before .before .before .before .before .before .before .before .before .pre .1 .writes-is) (c .before .before .before .before .place-of .ensures)) (same refl refl refl (c .before .before .place .ensures))
 
 pub write-in-spec : {M : Type 1} → statement M
 write-in-spec =

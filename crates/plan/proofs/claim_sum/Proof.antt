@@ -10,10 +10,6 @@ use Rattle.seats.specs.Loops.{at-end}
 use Rattle.plan.proofs.Pass.{claim-is, claim-small, sum-more, sum-none}
 use Rattle.plan.proofs.claim_sum.Statement.{statement}
 use Rattle.plan.proofs.claim_sum.Tie as tie
-use Rattle.plan.proofs.claim_sum.Reads as reads
-use Rattle.plan.proofs.claim_sum.Lts as lts
-use Rattle.plan.proofs.greater.Reads as greater-reads
-use Rattle.seats.proofs.at.Reads as at-reads
 
 abbrev Inv-loop : tie.InvT-loop
 Inv-loop seats held sum₀ o₀ sum o = (o ≤ owners) × (sum ≡ sumTo (claim seats) o) × (sum ≤ seatCount * o)
@@ -21,42 +17,33 @@ Inv-loop seats held sum₀ o₀ sum o = (o ≤ owners) × (sum ≡ sumTo (claim 
 abbrev μ-loop : tie.MeasureT-loop
 μ-loop seats held sum₀ o₀ sum o = owners - o
 
--- src/lib.rt:162:5
 loop-holds : tie.Need-loop-holds Inv-loop μ-loop
 loop-holds c = (omega arith, sum-none _, omega arith)
 
--- src/lib.rt:163:24
 at-requires : tie.Need-at-requires Inv-loop μ-loop
 at-requires c κs = search needs
 
--- src/lib.rt:163:37
 at-requires-2 : tie.Need-at-requires-2 Inv-loop μ-loop
 at-requires-2 c κs = search needs
 
--- src/lib.rt:163:16
 greater-requires : tie.Need-greater-requires Inv-loop μ-loop
 greater-requires c κs = search needs
 
--- src/lib.rt:163:9
 add-sum : tie.Need-add-sum Inv-loop μ-loop
 add-sum c = let e = claim-is _ (c .before .before .before .before .before .before .before .pre .0) _ (c .before .before .before .loop-test .taken) (c .before .before .at .ensures) (c .before .at2 .ensures) (c .greater .ensures) in
     omega (arith, claim-small _ (c .before .before .before .before .before .before .before .pre .0) _ (c .before .before .before .before .before .before .before .pre .1) (c .before .before .before .loop-test .taken))
 
--- src/lib.rt:164:9
 add-o : tie.Need-add-o Inv-loop μ-loop
 add-o c = omega arith
 
--- src/lib.rt:162:5
 loop-less : tie.Need-loop-less Inv-loop μ-loop
 loop-less c = omega arith
 
--- src/lib.rt:162:5
 loop-again : tie.Need-loop-again Inv-loop μ-loop
 loop-again c = let i = c .before .before .before .before .loop .inv in
     let e = claim-is _ (c .before .before .before .before .before .before .before .pre .0) _ (c .before .before .before .loop-test .taken) (c .before .before .at .ensures) (c .before .at2 .ensures) (c .greater .ensures) in
     (omega arith, sum-more _ _ (i .1) e, omega (arith, claim-small _ (c .before .before .before .before .before .before .before .pre .0) _ (c .before .before .before .before .before .before .before .pre .1) (c .before .before .before .loop-test .taken)))
 
--- src/lib.rt:156:1
 returns : tie.Need-returns Inv-loop μ-loop
 unfolding claims
 returns c = at-end (sumTo (claim _)) _ _ (c .before .loop .inv .1) (c .before .loop .inv .0) (c .loop-test .left)

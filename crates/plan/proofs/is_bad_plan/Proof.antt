@@ -10,9 +10,6 @@ use Rattle.rows.specs.Search.{Passed, passed-more, passed-none}
 use Rattle.plan.proofs.Pass.{bad-at, bad-by-sum, limit-over, share-good, share-over, sum-more, sum-none}
 use Rattle.plan.proofs.is_bad_plan.Statement.{statement}
 use Rattle.plan.proofs.is_bad_plan.Tie as tie
-use Rattle.plan.proofs.is_bad_plan.Reads as reads
-use Rattle.plan.proofs.is_bad_plan.Lts as lts
-use Rattle.seats.proofs.at.Reads as at-reads
 
 abbrev Inv-loop : tie.InvT-loop
 Inv-loop plan sum₀ o₀ sum o = Passed (badShare plan) owners o × (sum ≡ sumTo (share plan) o) × (sum ≤ seatCount * o)
@@ -20,43 +17,33 @@ Inv-loop plan sum₀ o₀ sum o = Passed (badShare plan) owners o × (sum ≡ su
 abbrev μ-loop : tie.MeasureT-loop
 μ-loop plan sum₀ o₀ sum o = owners - o
 
--- src/lib.rt:25:5
 loop-holds : tie.Need-loop-holds Inv-loop μ-loop
 loop-holds c = (passed-none _ _, sum-none _, omega arith)
 
--- src/lib.rt:26:13
 at-requires : tie.Need-at-requires Inv-loop μ-loop
 at-requires c κs = search needs
 
--- src/lib.rt:27:30
 add-at : tie.Need-add-at Inv-loop μ-loop
 add-at c = omega arith
 
--- src/lib.rt:27:13
 at-requires-2 : tie.Need-at-requires-2 Inv-loop μ-loop
 at-requires-2 c κs = search needs
 
--- src/lib.rt:29:13
 returns : tie.Need-returns Inv-loop μ-loop
 returns c = sym (bad-at _ _ (c .before .before .before .before .loop .inv .0) (c .before .before .before .loop-test .taken) (share-over _ _ (c .before .before .at .ensures) (c .before .at2 .ensures) (c .if1 .taken)))
 
--- src/lib.rt:32:13
 returns-2 : tie.Need-returns-2 Inv-loop μ-loop
 returns-2 c = sym (bad-at _ _ (c .before .before .before .before .before .loop .inv .0) (c .before .before .before .before .loop-test .taken) (limit-over _ _ (c .before .before .before .at .ensures) (c .before .before .at2 .ensures) (c .before .if1 .left) (c .if2 .taken)))
 
--- src/lib.rt:34:9
 add-sum : tie.Need-add-sum Inv-loop μ-loop
 add-sum c = omega arith
 
--- src/lib.rt:35:9
 add-o : tie.Need-add-o Inv-loop μ-loop
 add-o c = omega arith
 
--- src/lib.rt:25:5
 loop-less : tie.Need-loop-less Inv-loop μ-loop
 loop-less c = omega arith
 
--- src/lib.rt:25:5
 loop-again : tie.Need-loop-again Inv-loop μ-loop
 loop-again c = let i = c .before .before .before .before .before .loop .inv in (
   passed-more _ _ _ (i .0) (c .before .before .before .before .loop-test .taken) (share-good _ _ (c .before .before .before .at .ensures) (c .before .before .at2 .ensures) (c .before .if1 .left) (c .if2 .left)),
@@ -64,7 +51,6 @@ loop-again c = let i = c .before .before .before .before .before .loop .inv in (
   omega arith,
 )
 
--- src/lib.rt:20:1
 returns-3 : tie.Need-returns-3 Inv-loop μ-loop
 returns-3 c = sym (bad-by-sum _ _ (c .before .loop .inv .0) (c .loop-test .left) (c .before .loop .inv .1))
 

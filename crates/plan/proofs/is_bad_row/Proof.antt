@@ -2,21 +2,16 @@
 use borrow.Author.Tests.{eq-eqb, le-ltb, lt-ltb, ne-eqb}
 use Rattle.plan.proofs.is_bad_row.Statement.{statement}
 use Rattle.plan.proofs.is_bad_row.Tie as tie
-use Rattle.plan.proofs.is_bad_row.Reads as reads
-use Rattle.plan.proofs.is_bad_row.Lts as lts
 
--- src/lib.rt:84:9
 returns : tie.Need-returns
 returns c = simp (lt-ltb _ _ (c .if1 .taken))
 
--- src/lib.rt:80:1
 returns-2 : tie.Need-returns-2
 returns-2 c = simp (
   ne-eqb _ _ (c .if2 .taken),
   le-ltb _ _ (c .before .if1 .left),
 )
 
--- src/lib.rt:80:1
 returns-3 : tie.Need-returns-3
 returns-3 c = simp (
   eq-eqb _ _ (c .if2 .left),

@@ -10,10 +10,6 @@ use Rattle.seats.specs.Loops.{at-end}
 use Rattle.plan.proofs.Pass.{laid-more, laid-none}
 use Rattle.plan.proofs.lay.Statement.{statement}
 use Rattle.plan.proofs.lay.Tie as tie
-use Rattle.plan.proofs.lay.Reads as reads
-use Rattle.plan.proofs.lay.Lts as lts
-use Rattle.seats.proofs.at.Reads as at-reads
-use Rattle.seats.proofs.store.Reads as store-reads
 
 abbrev Inv-loop : tie.InvT-loop
 Inv-loop seats₀ plan i₀ seats i = (i ≤ planWidth) × (length seats ≡ length seats₀) × (seats ≡ laid seats₀ plan i)
@@ -21,36 +17,28 @@ Inv-loop seats₀ plan i₀ seats i = (i ≤ planWidth) × (length seats ≡ len
 abbrev μ-loop : tie.MeasureT-loop
 μ-loop seats₀ plan i₀ seats i = planWidth - i
 
--- src/lib.rt:45:5
 loop-holds : tie.Need-loop-holds Inv-loop μ-loop
 loop-holds c = (omega arith, refl, laid-none _ _)
 
--- src/lib.rt:46:13
 at-requires : tie.Need-at-requires Inv-loop μ-loop
 at-requires c κs = search needs
 
--- src/lib.rt:47:9
 store-requires : tie.Need-store-requires Inv-loop μ-loop
 store-requires c κs = search needs
 
--- src/lib.rt:48:9
 add-i : tie.Need-add-i Inv-loop μ-loop
 add-i c = omega arith
 
--- src/lib.rt:45:5
 loop-less : tie.Need-loop-less Inv-loop μ-loop
 loop-less c = omega arith
 
--- src/lib.rt:45:5
 loop-again : tie.Need-loop-again Inv-loop μ-loop
 loop-again c = let i = c .before .before .before .before .before .before .loop .inv in
     (omega arith, c .before .before .store .kept .0 ∙ i .1, laid-more _ _ _ (i .2) (c .before .before .before .before .at .ensures) (c .before .before .store .ensures))
 
--- src/lib.rt:41:1
 same-length : tie.Need-same-length Inv-loop μ-loop
 same-length c = c .before .loop .inv .1
 
--- src/lib.rt:41:1
 returns : tie.Need-returns Inv-loop μ-loop
 returns c = at-end (laid _ _) _ _ (c .before .loop .inv .2) (c .before .loop .inv .0) (c .loop-test .left)
 

@@ -3,15 +3,11 @@ use borrow.Author.Tests.{eq-eqb, le-ltb, lt-ltb, ne-eqb}
 use Rattle.plan.specs.Tally.{lowest}
 use Rattle.plan.proofs.lowest.Statement.{statement}
 use Rattle.plan.proofs.lowest.Tie as tie
-use Rattle.plan.proofs.lowest.Reads as reads
-use Rattle.plan.proofs.lowest.Lts as lts
 
--- src/lib.rt:104:9
 returns : tie.Need-returns
 unfolding lowest
 returns c = simp (lt-ltb _ _ (c .if1 .taken))
 
--- src/lib.rt:107:9
 returns-2 : tie.Need-returns-2
 unfolding lowest
 returns-2 c = simp (
@@ -19,7 +15,6 @@ returns-2 c = simp (
   le-ltb _ _ (c .before .if1 .left),
 )
 
--- src/lib.rt:100:1
 returns-3 : tie.Need-returns-3
 unfolding lowest
 returns-3 c = simp (

@@ -10,66 +10,48 @@ use Rattle.rows.specs.Fine.{sized-of}
 use Rattle.plan.proofs.Pass.{counts-none, free-found, open-refusal-by}
 use Rattle.plan.proofs.open.Statement.{statement}
 use Rattle.plan.proofs.open.Tie as tie
-use Rattle.plan.proofs.open.Reads as reads
-use Rattle.plan.proofs.open.Lts as lts
-use Rattle.plan.proofs.open_row.Reads as open-row-reads
-use Rattle.plan.proofs.plan_refusal.Reads as plan-refusal-reads
-use Rattle.plan.proofs.tally.Reads as tally-reads
-use Rattle.seats.proofs.is_unsized.Reads as is-unsized-reads
 
--- src/lib.rt:214:8
 is-unsized-requires : tie.Need-is-unsized-requires
 is-unsized-requires c κs = search needs
 
--- src/lib.rt:215:9
 returns : tie.Need-returns
 unfolding openSeat openRefusal firstOf
 returns c = simp (c .if1 .taken, ← c .before .is-unsized .ensures)
 
--- src/lib.rt:218:9
 returns-2 : tie.Need-returns-2
 unfolding openSeat openRefusal firstOf
 returns-2 c = simp (le-leb _ _ (c .if2 .taken), c .before .if1 .left, ← c .before .before .is-unsized .ensures)
 
--- src/lib.rt:221:29
 slice-aggregate-tally : tie.Need-slice-aggregate-tally
 slice-aggregate-tally c = search needs
 
--- src/lib.rt:221:9
 tally-requires : tie.Need-tally-requires
 tally-requires c κs = let a = c .before .before .before .before .before .before .before .before .args in
     (sized-of (tables (now (a .values)) (now (a .words)) (now (a .seats))) (sym (c .before .before .before .before .is-unsized .ensures) ∙ c .before .before .before .if1 .left) .rows, counts-none _)
 
--- src/lib.rt:222:35
 slice-aggregate-plan-refusal : tie.Need-slice-aggregate-plan-refusal
 slice-aggregate-plan-refusal c = search needs
 
--- src/lib.rt:222:9
 plan-refusal-requires : tie.Need-plan-refusal-requires
 plan-refusal-requires c κs = search needs
 
--- src/lib.rt:224:9
 same-length : tie.Need-same-length
 same-length c = search needs
 
--- src/lib.rt:224:9
 returns-3 : tie.Need-returns-3
 unfolding openSeat
 returns-3 c = let a = c .before .before .before .before .before .before .before .before .before .before .before .before .before .before .args in
     let u = sym (c .before .before .before .before .before .before .before .before .before .before .is-unsized .ensures) ∙ c .before .before .before .before .before .before .before .before .before .if1 .left in
     simp (open-refusal-by (now (a .values)) (now (a .words)) (now (a .seats)) (a .owner) u (c .before .before .before .before .before .before .before .before .if2 .left), ← c .before .plan-refusal .ensures, ne-eqb _ _ (c .if3 .taken))
 
--- src/lib.rt:226:5
 open-row-requires : tie.Need-open-row-requires
 open-row-requires c κs = let a = c .before .before .before .before .before .before .before .before .before .before .before .before .before .before .before .args in
     let u = sym (c .before .before .before .before .before .before .before .before .before .before .before .is-unsized .ensures) ∙ c .before .before .before .before .before .before .before .before .before .before .if1 .left in
     (free-found (now (a .values)) (now (a .words)) (now (a .seats)) (a .owner) u (c .before .before .before .before .before .before .before .before .before .if2 .left) (c .before .before .before .before .before .before .tally .ensures) (sym (c .before .before .plan-refusal .ensures) ∙ c .before .if3 .left) .1, sized-of (tables (now (a .values)) (now (a .words)) (now (a .seats))) u .rows)
 
--- src/lib.rt:211:1
 same-length-2 : tie.Need-same-length-2
 same-length-2 c = search needs
 
--- src/lib.rt:211:1
 returns-4 : tie.Need-returns-4
 unfolding openSeat
 returns-4 c = let a = c .before .before .before .before .before .before .before .before .before .before .before .before .before .before .before .before .before .before .args in

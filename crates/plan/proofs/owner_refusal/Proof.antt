@@ -4,16 +4,11 @@ use borrow.Author.Tests.{le-leb, le-ltb, lt-leb, lt-ltb}
 use Rattle.plan.specs.Tally.{ownerRefusal}
 use Rattle.plan.proofs.owner_refusal.Statement.{statement}
 use Rattle.plan.proofs.owner_refusal.Tie as tie
-use Rattle.plan.proofs.owner_refusal.Reads as reads
-use Rattle.plan.proofs.owner_refusal.Lts as lts
-use Rattle.plan.proofs.is_crowded.Reads as is-crowded-reads
 
--- src/lib.rt:179:9
 returns : tie.Need-returns
 unfolding ownerRefusal
 returns c = simp (lt-ltb _ _ (c .if1 .taken))
 
--- src/lib.rt:182:9
 returns-2 : tie.Need-returns-2
 unfolding ownerRefusal
 returns-2 c = simp (
@@ -21,11 +16,9 @@ returns-2 c = simp (
   le-ltb _ _ (c .before .if1 .left),
 )
 
--- src/lib.rt:184:8
 is-crowded-requires : tie.Need-is-crowded-requires
 is-crowded-requires c κs = search needs
 
--- src/lib.rt:185:9
 returns-3 : tie.Need-returns-3
 unfolding ownerRefusal
 returns-3 c = simp (
@@ -35,7 +28,6 @@ returns-3 c = simp (
   le-ltb _ _ (c .before .before .before .if1 .left),
 )
 
--- src/lib.rt:175:1
 returns-4 : tie.Need-returns-4
 unfolding ownerRefusal
 returns-4 c = simp (

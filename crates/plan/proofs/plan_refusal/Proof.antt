@@ -7,62 +7,43 @@ use Rattle.plan.proofs.Pass.{held-is}
 use Rattle.plan.specs.Tally.{ownerRefusal, planRefusal}
 use Rattle.plan.proofs.plan_refusal.Statement.{statement}
 use Rattle.plan.proofs.plan_refusal.Tie as tie
-use Rattle.plan.proofs.plan_refusal.Reads as reads
-use Rattle.plan.proofs.plan_refusal.Lts as lts
-use Rattle.plan.proofs.claim_sum.Reads as claim-sum-reads
-use Rattle.plan.proofs.is_bad_plan.Reads as is-bad-plan-reads
-use Rattle.plan.proofs.owner_refusal.Reads as owner-refusal-reads
-use Rattle.plan.proofs.some_over.Reads as some-over-reads
-use Rattle.seats.proofs.at.Reads as at-reads
 
--- src/lib.rt:189:8
 is-bad-plan-requires : tie.Need-is-bad-plan-requires
 is-bad-plan-requires c κs = search needs
 
--- src/lib.rt:190:9
 returns : tie.Need-returns
 unfolding planRefusal unsound firstOf oneOf
 returns c = simp (c .if1 .taken, ← c .before .is-bad-plan .ensures)
 
--- src/lib.rt:193:9
 returns-2 : tie.Need-returns-2
 unfolding planRefusal unsound firstOf oneOf
 returns-2 c = simp (← c .before .before .before .before .before .pre .0 .bad-is, c .if2 .taken, c .before .if1 .left, ← c .before .before .is-bad-plan .ensures)
 
--- src/lib.rt:195:8
 some-over-requires : tie.Need-some-over-requires
 some-over-requires c κs = c .before .before .before .before .before .pre .0 .counts (c .if2 .left)
 
--- src/lib.rt:196:9
 returns-3 : tie.Need-returns-3
 unfolding planRefusal unsound firstOf oneOf
 returns-3 c = simp (c .if3 .taken, ← c .before .some-over .ensures, ← c .before .before .before .before .before .before .before .pre .0 .bad-is, c .before .before .if2 .left, c .before .before .before .if1 .left, ← c .before .before .before .before .is-bad-plan .ensures)
 
--- src/lib.rt:198:19
 at-requires : tie.Need-at-requires
 at-requires c κs = search needs
 
--- src/lib.rt:198:47
 add-at : tie.Need-add-at
 add-at c = search needs
 
--- src/lib.rt:198:37
 at-requires-2 : tie.Need-at-requires-2
 at-requires-2 c κs = search needs
 
--- src/lib.rt:198:69
 at-requires-3 : tie.Need-at-requires-3
 at-requires-3 c κs = search needs
 
--- src/lib.rt:198:86
 claim-sum-requires : tie.Need-claim-sum-requires
 claim-sum-requires c κs = (c .before .before .before .before .before .before .before .before .before .before .pre .0 .counts (c .before .before .before .before .before .if2 .left), sym (c .before .before .before .before .before .before .before .is-bad-plan .ensures) ∙ c .before .before .before .before .before .before .if1 .left)
 
--- src/lib.rt:198:5
 owner-refusal-requires : tie.Need-owner-refusal-requires
 owner-refusal-requires c κs = search needs
 
--- src/lib.rt:185:1
 returns-4 : tie.Need-returns-4
 unfolding planRefusal ownerRefusal unsound crowded firstOf oneOf
 returns-4 c = let h = c .before .before .before .before .before .before .before .before .before .before .before .before .pre in

@@ -4,70 +4,49 @@ use Rattle.rules.specs.Plan.{setup, setupRefusal}
 use Rattle.plan.proofs.Start.{good-start, late-start}
 use Rattle.plan.proofs.setup.Statement.{statement}
 use Rattle.plan.proofs.setup.Tie as tie
-use Rattle.plan.proofs.setup.Reads as reads
-use Rattle.plan.proofs.setup.Lts as lts
-use Rattle.clock.proofs.fresh.Reads as fresh-reads
-use Rattle.plan.proofs.is_bad_plan.Reads as is-bad-plan-reads
-use Rattle.plan.proofs.lay.Reads as lay-reads
-use Rattle.seats.proofs.fill.Reads as fill-reads
-use Rattle.seats.proofs.is_unsized.Reads as is-unsized-reads
 
--- src/lib.rt:56:8
 is-unsized-requires : tie.Need-is-unsized-requires
 is-unsized-requires c κs = search needs
 
--- src/lib.rt:57:9
 returns : tie.Need-returns
 unfolding setup setupRefusal
 returns c = simp (c .if1 .taken, ← c .before .is-unsized .ensures)
 
--- src/lib.rt:59:30
 fresh-requires : tie.Need-fresh-requires
 fresh-requires c κs = search needs
 
--- src/lib.rt:59:22
 enum-known-word : tie.Need-enum-known-word
 enum-known-word c = search needs
 
--- src/lib.rt:60:9
 enum-told : tie.Need-enum-told
 enum-told c = search needs
 
--- src/lib.rt:60:9
 returns-2 : tie.Need-returns-2
 unfolding setup setupRefusal
 returns-2 c = simp (late-start _ (c .before .before .fresh .ensures) (c .before .match .keys2), c .before .before .before .if1 .left, ← c .before .before .before .before .is-unsized .ensures)
 
--- src/lib.rt:62:8
 is-bad-plan-requires : tie.Need-is-bad-plan-requires
 is-bad-plan-requires c κs = search needs
 
--- src/lib.rt:63:9
 returns-3 : tie.Need-returns-3
 unfolding setup setupRefusal
 returns-3 c = simp (c .if2 .taken, ← c .before .is-bad-plan .ensures, good-start _ (c .before .before .before .before .before .before .fresh .ensures) (c .before .before .before .before .word .given .1) .0, c .before .before .before .before .before .before .before .if1 .left, ← c .before .before .before .before .before .before .before .before .is-unsized .ensures)
 
--- src/lib.rt:65:5
 fill-requires : tie.Need-fill-requires
 fill-requires c κs = search needs
 
--- src/lib.rt:66:5
 fill-requires-2 : tie.Need-fill-requires-2
 fill-requires-2 c κs = search needs
 
--- src/lib.rt:67:5
 lay-requires : tie.Need-lay-requires
 lay-requires c κs = search needs
 
--- src/lib.rt:53:1
 same-length : tie.Need-same-length
 same-length c = search needs
 
--- src/lib.rt:53:1
 same-length-2 : tie.Need-same-length-2
 same-length-2 c = search needs
 
--- src/lib.rt:53:1
 returns-4 : tie.Need-returns-4
 unfolding setup setupRefusal
 returns-4 c = let s = good-start _ (c .before .before .before .before .before .before .before .before .before .before .before .before .before .before .before .before .before .before .before .fresh .ensures) (c .before .before .before .before .before .before .before .before .before .before .before .before .before .before .before .before .before .word .given .1) in

@@ -10,9 +10,6 @@ use Rattle.rows.specs.Search.{Passed, none-passes, passed-more, passed-none, so
 use Rattle.plan.proofs.Pass.{held-is}
 use Rattle.plan.proofs.some_over.Statement.{statement}
 use Rattle.plan.proofs.some_over.Tie as tie
-use Rattle.plan.proofs.some_over.Reads as reads
-use Rattle.plan.proofs.some_over.Lts as lts
-use Rattle.seats.proofs.at.Reads as at-reads
 
 abbrev Inv-loop : tie.InvT-loop
 Inv-loop seats held o₀ o = Passed (overLimit seats) owners o
@@ -20,43 +17,34 @@ Inv-loop seats held o₀ o = Passed (overLimit seats) owners o
 abbrev μ-loop : tie.MeasureT-loop
 μ-loop seats held o₀ o = owners - o
 
--- src/lib.rt:136:5
 loop-holds : tie.Need-loop-holds Inv-loop μ-loop
 loop-holds c = passed-none _ _
 
--- src/lib.rt:137:22
 add-at : tie.Need-add-at Inv-loop μ-loop
 add-at c = omega arith
 
--- src/lib.rt:137:12
 at-requires : tie.Need-at-requires Inv-loop μ-loop
 at-requires c κs = search needs
 
--- src/lib.rt:137:41
 at-requires-2 : tie.Need-at-requires-2 Inv-loop μ-loop
 at-requires-2 c κs = search needs
 
--- src/lib.rt:138:13
 returns : tie.Need-returns Inv-loop μ-loop
 unfolding overLimit
 returns c = sym (some-passes _ _ _ (c .before .before .before .before .loop .inv) (c .before .before .before .loop-test .taken)
     (simp (← held-is _ (c .before .before .before .before .before .before .before .pre) _ (c .before .before .before .loop-test .taken), ← c .before .at2 .ensures, ← c .before .before .at .ensures, lt-ltb _ _ (c .if1 .taken))))
 
--- src/lib.rt:140:9
 add-o : tie.Need-add-o Inv-loop μ-loop
 add-o c = omega arith
 
--- src/lib.rt:136:5
 loop-less : tie.Need-loop-less Inv-loop μ-loop
 loop-less c = omega arith
 
--- src/lib.rt:136:5
 loop-again : tie.Need-loop-again Inv-loop μ-loop
 unfolding overLimit
 loop-again c = passed-more _ _ _ (c .before .before .before .before .loop .inv) (c .before .before .before .loop-test .taken)
     (simp (← held-is _ (c .before .before .before .before .before .before .before .pre) _ (c .before .before .before .loop-test .taken), ← c .before .at2 .ensures, ← c .before .before .at .ensures, le-ltb _ _ (c .if1 .left)))
 
--- src/lib.rt:131:1
 returns-2 : tie.Need-returns-2 Inv-loop μ-loop
 returns-2 c = sym (none-passes _ _ _ (c .before .loop .inv) (c .loop-test .left))
 

@@ -14,12 +14,6 @@ use Rattle.plan.proofs.Pass.{Lowest, counts-more, held-small, lowest-mo
 use Rattle.plan.specs.Tally.{Counts}
 use Rattle.plan.proofs.tally.Statement.{statement}
 use Rattle.plan.proofs.tally.Tie as tie
-use Rattle.plan.proofs.tally.Reads as reads
-use Rattle.plan.proofs.tally.Lts as lts
-use Rattle.plan.proofs.count.Reads as count-reads
-use Rattle.plan.proofs.is_bad_row.Reads as is-bad-row-reads
-use Rattle.plan.proofs.lowest.Reads as lowest-reads
-use Rattle.seats.proofs.at.Reads as at-reads
 
 abbrev Inv-loop : tie.InvT-loop
 Inv-loop seats held₀ free₀ i₀ held free i = Passed (badRow seats) seatCount i × Counts seats held i × Lowest (isFree seats) i free
@@ -27,51 +21,39 @@ Inv-loop seats held₀ free₀ i₀ held free i = Passed (badRow seats) seatCoun
 abbrev μ-loop : tie.MeasureT-loop
 μ-loop seats held₀ free₀ i₀ held free i = seatCount - i
 
--- src/lib.rt:118:5
 loop-holds : tie.Need-loop-holds Inv-loop μ-loop
 loop-holds c = (passed-none _ _, c .before .before .pre .1, inl (refl, passed-none _ _))
 
--- src/lib.rt:119:44
 mul-at : tie.Need-mul-at Inv-loop μ-loop
 mul-at c = omega arith
 
--- src/lib.rt:119:31
 add-at : tie.Need-add-at Inv-loop μ-loop
 add-at c = omega arith
 
--- src/lib.rt:119:31
 add-at-2 : tie.Need-add-at-2 Inv-loop μ-loop
 add-at-2 c = omega arith
 
--- src/lib.rt:119:13
 at-requires : tie.Need-at-requires Inv-loop μ-loop
 at-requires c κs = search needs
 
--- src/lib.rt:120:44
 mul-at-2 : tie.Need-mul-at-2 Inv-loop μ-loop
 mul-at-2 c = omega arith
 
--- src/lib.rt:120:31
 add-at-3 : tie.Need-add-at-3 Inv-loop μ-loop
 add-at-3 c = omega arith
 
--- src/lib.rt:120:31
 add-at-4 : tie.Need-add-at-4 Inv-loop μ-loop
 add-at-4 c = omega arith
 
--- src/lib.rt:120:13
 at-requires-2 : tie.Need-at-requires-2 Inv-loop μ-loop
 at-requires-2 c κs = search needs
 
--- src/lib.rt:121:12
 is-bad-row-requires : tie.Need-is-bad-row-requires Inv-loop μ-loop
 is-bad-row-requires c κs = search needs
 
--- src/lib.rt:122:13
 same-length : tie.Need-same-length Inv-loop μ-loop
 same-length c = c .before .before .before .before .before .loop .inv .1 .wide ∙ sym (c .before .before .before .before .before .before .before .before .pre .1 .wide)
 
--- src/lib.rt:122:13
 returns : tie.Need-returns Inv-loop μ-loop
 unfolding badRow oneOf
 returns c = let s = now (c .before .before .before .before .before .before .before .before .args .seats) in
@@ -79,23 +61,18 @@ returns c = let s = now (c .before .before .before .before .before .before .befo
     let w = c .before .before .at2 .ensures ∙ sym (cell-at s (c .before .before .before .before .before .loop .i) 1 (omega arith)) in
     tallied-bad _ _ _ (some-passes _ _ _ (c .before .before .before .before .before .loop .inv .0) (c .before .before .before .before .loop-test .taken) (simp (← p, ← w, ← c .before .is-bad-row .ensures) (c .if1 .taken)))
 
--- src/lib.rt:124:9
 count-requires : tie.Need-count-requires Inv-loop μ-loop
 count-requires c κs = let h = c .before .before .before .before .before .before .loop .inv .1 in omega (arith, held-small _ _ h (c .before .before .before .at2 .result))
 
--- src/lib.rt:125:9
 lowest-requires : tie.Need-lowest-requires Inv-loop μ-loop
 lowest-requires c κs = search needs
 
--- src/lib.rt:126:9
 add-i : tie.Need-add-i Inv-loop μ-loop
 add-i c = omega arith
 
--- src/lib.rt:118:5
 loop-less : tie.Need-loop-less Inv-loop μ-loop
 loop-less c = omega arith
 
--- src/lib.rt:118:5
 loop-again : tie.Need-loop-again Inv-loop μ-loop
 unfolding badRow oneOf isFree
 loop-again c = let i = c .before .before .before .before .before .before .before .before .before .before .loop .inv in
@@ -107,11 +84,9 @@ loop-again c = let i = c .before .before .before .before .before .before .before
       lowest-more _ _ (i .2) (c .before .before .before .before .before .before .before .before .before .loop-test .taken) (simp (← p) (c .lowest .ensures)),
     )
 
--- src/lib.rt:112:1
 same-length-2 : tie.Need-same-length-2 Inv-loop μ-loop
 same-length-2 c = c .before .loop .inv .1 .wide ∙ sym (c .before .before .before .before .pre .1 .wide)
 
--- src/lib.rt:112:1
 returns-2 : tie.Need-returns-2 Inv-loop μ-loop
 returns-2 c = let i = c .before .loop .inv in tallied-sound _ _ _ _ (i .0) (i .1) (i .2) (c .loop-test .left)
 

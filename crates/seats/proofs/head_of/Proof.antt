@@ -1,36 +1,27 @@
-use Rattle.seats.specs.Heads.{headOf}
+-- `seats::head_of` meets its contract. Assumes nothing.
 use borrow.Author.Needs.{needs}
+use Rattle.seats.specs.Heads.{headOf}
 use Rattle.seats.proofs.head_of.Statement.{statement}
 use Rattle.seats.proofs.head_of.Tie as tie
-use Rattle.seats.proofs.head_of.Reads as reads
-use Rattle.seats.proofs.head_of.Lts as lts
-use Rattle.seats.proofs.at.Reads as at-reads
 
--- src/lib.rt:66:16
 at-requires : tie.Need-at-requires
 at-requires c κs = search needs
 
--- src/lib.rt:67:16
 at-requires-2 : tie.Need-at-requires-2
 at-requires-2 c κs = search needs
 
--- src/lib.rt:68:19
 at-requires-3 : tie.Need-at-requires-3
 at-requires-3 c κs = search needs
 
--- src/lib.rt:69:16
 at-requires-4 : tie.Need-at-requires-4
 at-requires-4 c κs = search needs
 
--- src/lib.rt:70:17
 at-requires-5 : tie.Need-at-requires-5
 at-requires-5 c κs = search needs
 
--- src/lib.rt:71:15
 at-requires-6 : tie.Need-at-requires-6
 at-requires-6 c κs = search needs
 
--- src/lib.rt:62:1
 returns : tie.Need-returns
 unfolding headOf
 returns c = simp (

@@ -1,16 +1,13 @@
-use Rattle.rules.specs.Tests.{oneOf}
+-- `seats::is_bad_read` meets its contract. Assumes nothing.
 use borrow.Author.Tests.{le-leb, lt-leb}
+use Rattle.rules.specs.Tests.{oneOf}
 use Rattle.seats.proofs.is_bad_read.Statement.{statement}
 use Rattle.seats.proofs.is_bad_read.Tie as tie
-use Rattle.seats.proofs.is_bad_read.Reads as reads
-use Rattle.seats.proofs.is_bad_read.Lts as lts
 
--- src/lib.rt:156:9
 returns : tie.Need-returns
 unfolding oneOf
 returns c = simp (le-leb _ _ (c .if1 .taken))
 
--- src/lib.rt:152:1
 returns-2 : tie.Need-returns-2
 unfolding oneOf
 returns-2 c = simp (
@@ -18,7 +15,6 @@ returns-2 c = simp (
   lt-leb _ _ (c .before .if1 .left),
 )
 
--- src/lib.rt:152:1
 returns-3 : tie.Need-returns-3
 unfolding oneOf
 returns-3 c = simp (

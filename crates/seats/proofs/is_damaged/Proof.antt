@@ -1,25 +1,17 @@
-use Rattle.seats.specs.declared.Head.{Head}
-use mathlib.Core.Path.{sym, _∙_, ap}
-use Rattle.seats.specs.Heads.{damaged-by, head-fits, head-is}
-use borrow.Author.Tests.{eq-eqb, ne-eqb}
+-- `seats::is_damaged` meets its contract. Assumes nothing.
+use mathlib.Core.Path.{_∙_, sym}
 use borrow.Author.Needs.{needs}
+use borrow.Author.Tests.{eq-eqb, ne-eqb}
+use Rattle.seats.specs.Heads.{damaged-by, head-fits, head-is}
 use Rattle.seats.proofs.is_damaged.Statement.{statement}
 use Rattle.seats.proofs.is_damaged.Tie as tie
-use Rattle.seats.proofs.is_damaged.Reads as reads
-use Rattle.seats.proofs.is_damaged.Lts as lts
-use Rattle.seats.proofs.is_bad_head.Reads as is-bad-head-reads
-use Rattle.seats.proofs.some_bad_read.Reads as some-bad-read-reads
-use Rattle.seats.proofs.some_bad_write.Reads as some-bad-write-reads
 
--- src/lib.rt:196:9
 returns : tie.Need-returns
 returns c = simp (damaged-by _ (c .before .before .before .pre .1), eq-eqb _ _ (c .if1 .taken))
 
--- src/lib.rt:198:8
 is-bad-head-requires : tie.Need-is-bad-head-requires
 is-bad-head-requires c κs = search needs
 
--- src/lib.rt:199:9
 returns-2 : tie.Need-returns-2
 returns-2 c = simp (
   damaged-by _ (c .before .before .before .before .before .pre .1),
@@ -28,12 +20,10 @@ returns-2 c = simp (
   ne-eqb _ _ (c .before .before .if1 .left),
 )
 
--- src/lib.rt:201:8
 some-bad-read-requires : tie.Need-some-bad-read-requires
 some-bad-read-requires c κs = let h = head-is (c .before .before .before .before .before .pre .1) in
     (c .before .before .before .before .before .pre .0, head-fits _ (sym (c .before .is-bad-head .ensures) ∙ c .if2 .left) .0, h .phase-is, h .time-is)
 
--- src/lib.rt:202:9
 returns-3 : tie.Need-returns-3
 returns-3 c = simp (
   damaged-by _ (c .before .before .before .before .before .before .before .pre .1),
@@ -44,11 +34,9 @@ returns-3 c = simp (
   ne-eqb _ _ (c .before .before .before .before .if1 .left),
 )
 
--- src/lib.rt:204:5
 some-bad-write-requires : tie.Need-some-bad-write-requires
 some-bad-write-requires c κs = (c .before .before .before .before .before .before .before .pre .0, head-fits _ (sym (c .before .before .before .is-bad-head .ensures) ∙ c .before .before .if2 .left) .1)
 
--- src/lib.rt:191:1
 returns-4 : tie.Need-returns-4
 returns-4 c = simp (
   damaged-by _ (c .before .before .before .before .before .before .before .before .pre .1),

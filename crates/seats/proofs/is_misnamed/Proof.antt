@@ -1,17 +1,14 @@
+-- `seats::is_misnamed` meets its contract. Assumes nothing.
+use borrow.Author.Tests.{le-leb, lt-leb}
 use Rattle.rules.specs.Refusals.{misnamed}
 use Rattle.rules.specs.Tests.{oneOf}
-use borrow.Author.Tests.{le-leb, lt-leb}
 use Rattle.seats.proofs.is_misnamed.Statement.{statement}
 use Rattle.seats.proofs.is_misnamed.Tie as tie
-use Rattle.seats.proofs.is_misnamed.Reads as reads
-use Rattle.seats.proofs.is_misnamed.Lts as lts
 
--- src/lib.rt:105:9
 returns : tie.Need-returns
 unfolding misnamed oneOf
 returns c = simp (le-leb _ _ (c .if1 .taken))
 
--- src/lib.rt:108:9
 returns-2 : tie.Need-returns-2
 unfolding misnamed oneOf
 returns-2 c = simp (
@@ -19,7 +16,6 @@ returns-2 c = simp (
   lt-leb _ _ (c .before .if1 .left),
 )
 
--- src/lib.rt:101:1
 returns-3 : tie.Need-returns-3
 unfolding misnamed oneOf
 returns-3 c = simp (

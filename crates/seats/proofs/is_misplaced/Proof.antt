@@ -1,16 +1,13 @@
-use Rattle.rules.specs.Refusals.{misplaced}
+-- `seats::is_misplaced` meets its contract. Assumes nothing.
 use borrow.Author.Tests.{eq-eqb, ne-eqb}
+use Rattle.rules.specs.Refusals.{misplaced}
 use Rattle.seats.proofs.is_misplaced.Statement.{statement}
 use Rattle.seats.proofs.is_misplaced.Tie as tie
-use Rattle.seats.proofs.is_misplaced.Reads as reads
-use Rattle.seats.proofs.is_misplaced.Lts as lts
 
--- src/lib.rt:114:1
 returns : tie.Need-returns
 unfolding misplaced
 returns c = simp (c .match .keys1)
 
--- src/lib.rt:114:1
 returns-2 : tie.Need-returns-2
 unfolding misplaced
 returns-2 c = simp (
@@ -18,7 +15,6 @@ returns-2 c = simp (
   c .before .match .keys2,
 )
 
--- src/lib.rt:114:1
 returns-3 : tie.Need-returns-3
 unfolding misplaced
 returns-3 c = simp (
@@ -26,12 +22,10 @@ returns-3 c = simp (
   c .before .match .keys2,
 )
 
--- src/lib.rt:114:1
 returns-4 : tie.Need-returns-4
 unfolding misplaced
 returns-4 c = simp (c .match .keys3)
 
--- src/lib.rt:114:1
 returns-5 : tie.Need-returns-5
 unfolding misplaced
 returns-5 c = simp (

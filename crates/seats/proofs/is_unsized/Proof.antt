@@ -1,17 +1,14 @@
+-- `seats::is_unsized` meets its contract. Assumes nothing.
+use borrow.Author.Tests.{eq-eqb, le-ltb, lt-ltb, ne-eqb}
 use Rattle.rules.specs.Refusals.{unsized}
 use Rattle.rules.specs.Tests.{oneOf}
-use borrow.Author.Tests.{eq-eqb, le-ltb, lt-ltb, ne-eqb}
 use Rattle.seats.proofs.is_unsized.Statement.{statement}
 use Rattle.seats.proofs.is_unsized.Tie as tie
-use Rattle.seats.proofs.is_unsized.Reads as reads
-use Rattle.seats.proofs.is_unsized.Lts as lts
 
--- src/lib.rt:89:9
 returns : tie.Need-returns
 unfolding unsized oneOf
 returns c = simp (ne-eqb _ _ (c .if1 .taken))
 
--- src/lib.rt:92:9
 returns-2 : tie.Need-returns-2
 unfolding unsized oneOf
 returns-2 c = simp (
@@ -19,7 +16,6 @@ returns-2 c = simp (
   eq-eqb _ _ (c .before .if1 .left),
 )
 
--- src/lib.rt:95:9
 returns-3 : tie.Need-returns-3
 unfolding unsized oneOf
 returns-3 c = simp (
@@ -28,7 +24,6 @@ returns-3 c = simp (
   eq-eqb _ _ (c .before .before .if1 .left),
 )
 
--- src/lib.rt:85:1
 returns-4 : tie.Need-returns-4
 unfolding unsized oneOf
 returns-4 c = simp (

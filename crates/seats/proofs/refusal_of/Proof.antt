@@ -1,26 +1,19 @@
-use Rattle.seats.specs.Heads.{rowRefusal}
-use Rattle.rows.specs.Fine.{none-of, sized-of}
-use Rattle.rules.specs.Tests.{firstOf}
-use Rattle.rules.specs.Refusals.{refusal, misnamed}
-use Rattle.rules.specs.Tables.{tables}
-use borrow.Author.Tests.{leb-false}
-use mathlib.Core.Path.{sym, _∙_}
+-- `seats::refusal_of` meets its contract. Assumes nothing.
 use denote.Ref.{now}
+use mathlib.Core.Path.{_∙_, sym}
 use borrow.Author.Needs.{needs}
+use borrow.Author.Tests.{leb-false}
+use Rattle.rules.specs.Refusals.{misnamed, refusal}
+use Rattle.rules.specs.Tables.{tables}
+use Rattle.rules.specs.Tests.{firstOf}
+use Rattle.rows.specs.Fine.{none-of, sized-of}
+use Rattle.seats.specs.Heads.{rowRefusal}
 use Rattle.seats.proofs.refusal_of.Statement.{statement}
 use Rattle.seats.proofs.refusal_of.Tie as tie
-use Rattle.seats.proofs.refusal_of.Reads as reads
-use Rattle.seats.proofs.refusal_of.Lts as lts
-use Rattle.seats.proofs.is_misnamed.Reads as is-misnamed-reads
-use Rattle.seats.proofs.is_unsized.Reads as is-unsized-reads
-use Rattle.seats.proofs.row_of.Reads as row-of-reads
-use Rattle.seats.proofs.row_refusal.Reads as row-refusal-reads
 
--- src/lib.rt:242:8
 is-unsized-requires : tie.Need-is-unsized-requires
 is-unsized-requires c κs = search needs
 
--- src/lib.rt:243:9
 returns : tie.Need-returns
 unfolding refusal firstOf
 returns c = simp (
@@ -28,11 +21,9 @@ returns c = simp (
   ← c .before .is-unsized .ensures,
 )
 
--- src/lib.rt:245:8
 is-misnamed-requires : tie.Need-is-misnamed-requires
 is-misnamed-requires c κs = search needs
 
--- src/lib.rt:246:9
 returns-2 : tie.Need-returns-2
 unfolding refusal firstOf
 returns-2 c = simp (
@@ -42,17 +33,14 @@ returns-2 c = simp (
   ← c .before .before .before .is-unsized .ensures,
 )
 
--- src/lib.rt:248:17
 row-of-requires : tie.Need-row-of-requires
 unfolding misnamed
 row-of-requires c κs = let a = c .before .before .before .before .before .before .before .args in
     (leb-false _ _ (none-of _ (sym (c .before .is-misnamed .ensures) ∙ c .if2 .left) .1 .0), sized-of (tables (now (a .values)) (now (a .words)) (now (a .seats))) (sym (c .before .before .before .is-unsized .ensures) ∙ c .before .before .if1 .left) .rows)
 
--- src/lib.rt:248:5
 row-refusal-requires : tie.Need-row-refusal-requires
 row-refusal-requires c κs = search needs
 
--- src/lib.rt:238:1
 returns-3 : tie.Need-returns-3
 unfolding refusal rowRefusal firstOf
 returns-3 c = simp (

@@ -1,23 +1,17 @@
+-- `seats::row_refusal` meets its contract. Assumes nothing.
+use borrow.Author.Needs.{needs}
+use borrow.Author.Tests.{eq-eqb, le-ltb, lt-ltb, ne-eqb}
 use Rattle.rules.specs.Tests.{firstOf}
 use Rattle.seats.specs.Heads.{row-refusal-by}
-use borrow.Author.Tests.{eq-eqb, le-ltb, lt-ltb, ne-eqb}
-use borrow.Author.Needs.{needs}
 use Rattle.seats.proofs.row_refusal.Statement.{statement}
 use Rattle.seats.proofs.row_refusal.Tie as tie
-use Rattle.seats.proofs.row_refusal.Reads as reads
-use Rattle.seats.proofs.row_refusal.Lts as lts
-use Rattle.seats.proofs.head_of.Reads as head-of-reads
-use Rattle.seats.proofs.is_damaged.Reads as is-damaged-reads
 
--- src/lib.rt:212:9
 head-of-requires : tie.Need-head-of-requires
 head-of-requires c κs = search needs
 
--- src/lib.rt:213:8
 is-damaged-requires : tie.Need-is-damaged-requires
 is-damaged-requires c κs = search needs
 
--- src/lib.rt:214:9
 returns : tie.Need-returns
 unfolding firstOf
 returns c = simp (
@@ -26,7 +20,6 @@ returns c = simp (
   row-refusal-by _ (c .before .before .head-of .ensures),
 )
 
--- src/lib.rt:217:9
 returns-2 : tie.Need-returns-2
 unfolding firstOf
 returns-2 c = simp (
@@ -36,7 +29,6 @@ returns-2 c = simp (
   row-refusal-by _ (c .before .before .before .before .head-of .ensures),
 )
 
--- src/lib.rt:220:9
 returns-3 : tie.Need-returns-3
 unfolding firstOf
 returns-3 c = simp (
@@ -47,7 +39,6 @@ returns-3 c = simp (
   row-refusal-by _ (c .before .before .before .before .before .before .head-of .ensures),
 )
 
--- src/lib.rt:223:9
 returns-4 : tie.Need-returns-4
 unfolding firstOf
 returns-4 c = simp (
@@ -59,7 +50,6 @@ returns-4 c = simp (
   row-refusal-by _ (c .before .before .before .before .before .before .before .before .head-of .ensures),
 )
 
--- src/lib.rt:208:1
 returns-5 : tie.Need-returns-5
 unfolding firstOf
 returns-5 c = simp (

@@ -1,15 +1,12 @@
-use borrow.Author.Needs.{needs}
-use native.Mathlib.Omega.{arith}
-use Rattle.rows.specs.Search.{Passed, passed-none, passed-more, some-passes, none-passes}
-use Rattle.rules.specs.Refusals.{badRead}
-use mathlib.Core.Path.{sym}
+-- `seats::some_bad_read` meets its contract. Assumes nothing.
 use Prim.Native.Nat.{_-_}
+use mathlib.Core.Path.{sym}
+use native.Mathlib.Omega.{arith}
+use borrow.Author.Needs.{needs}
+use Rattle.rules.specs.Refusals.{badRead}
+use Rattle.rows.specs.Search.{Passed, none-passes, passed-more, passed-none, some-passes}
 use Rattle.seats.proofs.some_bad_read.Statement.{statement}
 use Rattle.seats.proofs.some_bad_read.Tie as tie
-use Rattle.seats.proofs.some_bad_read.Reads as reads
-use Rattle.seats.proofs.some_bad_read.Lts as lts
-use Rattle.seats.proofs.entry.Reads as entry-reads
-use Rattle.seats.proofs.is_bad_read.Reads as is-bad-read-reads
 
 abbrev Inv-loop : tie.InvT-loop
 Inv-loop row reads records phase time i₀ i = Passed (badRead row records) reads i
@@ -17,43 +14,34 @@ Inv-loop row reads records phase time i₀ i = Passed (badRead row records) read
 abbrev μ-loop : tie.MeasureT-loop
 μ-loop row reads records phase time i₀ i = reads - i
 
--- src/lib.rt:166:5
 loop-holds : tie.Need-loop-holds Inv-loop μ-loop
 loop-holds c = passed-none _ _
 
--- src/lib.rt:167:13
 entry-requires : tie.Need-entry-requires Inv-loop μ-loop
 entry-requires c κs = omega arith
 
--- src/lib.rt:168:13
 entry-requires-2 : tie.Need-entry-requires-2 Inv-loop μ-loop
 entry-requires-2 c κs = omega arith
 
--- src/lib.rt:169:12
 is-bad-read-requires : tie.Need-is-bad-read-requires Inv-loop μ-loop
 is-bad-read-requires c κs = search needs
 
--- src/lib.rt:170:13
 returns : tie.Need-returns Inv-loop μ-loop
 unfolding badRead
 returns c = sym (some-passes _ _ _ (c .before .before .before .before .before .loop .inv) (c .before .before .before .before .loop-test .taken)
     (simp (← c .before .before .before .before .before .before .before .pre .2, ← c .before .before .before .before .before .before .before .pre .3, ← c .before .before .before .entry .ensures, ← c .before .before .entry2 .ensures, ← c .before .is-bad-read .ensures) (c .if1 .taken)))
 
--- src/lib.rt:172:9
 add-i : tie.Need-add-i Inv-loop μ-loop
 add-i c = omega arith
 
--- src/lib.rt:166:5
 loop-less : tie.Need-loop-less Inv-loop μ-loop
 loop-less c = omega arith
 
--- src/lib.rt:166:5
 loop-again : tie.Need-loop-again Inv-loop μ-loop
 unfolding badRead
 loop-again c = passed-more _ _ _ (c .before .before .before .before .before .loop .inv) (c .before .before .before .before .loop-test .taken)
     (simp (← c .before .before .before .before .before .before .before .pre .2, ← c .before .before .before .before .before .before .before .pre .3, ← c .before .before .before .entry .ensures, ← c .before .before .entry2 .ensures, ← c .before .is-bad-read .ensures) (c .if1 .left))
 
--- src/lib.rt:161:1
 returns-2 : tie.Need-returns-2 Inv-loop μ-loop
 returns-2 c = sym (none-passes _ _ _ (c .before .loop .inv) (c .loop-test .left))
 

@@ -112,7 +112,8 @@ returns-2 c =
       done = λ _.
           took _ (take (a .to) (now (a .buf))) (a .k) (now (a .out)) r _ _ _ _ (rw n at d)
           (omega (arith, room (a .to) s (take (a .to) (now (a .buf))) (omega arith), g .roomy)) (omega (arith, c .before .before .before .before .before .before .before .before .before .before .before .before .before .before .before .before .before .before .before .before .before .before .before .before .before .before .good))
-          (ap (λ (b : List ℕ). take (a .to - r .used) b) (c .before .before .before .shift .ensures) ∙ shift-front (now (a .buf)) (r .used) (a .to) u (g .inside));
+          (ap (λ (b : List ℕ). take (a .to - r .used) b) (c .before .before .before .shift .ensures) ∙ shift-front (now (a .buf)) (r .used) (a .to) u (g .inside))
+          (omega arith);
       moved = λ _. rw back (c .before .before .before .shift .ensures);
       refused = λ e. absurd (true≢false (sym e ∙ good));
     }
