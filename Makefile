@@ -1,18 +1,53 @@
-# The commands of this repository. `make test` is the gate; `make run` shows a tape's lines.
+# The commands of this repository. `make run` shows a tape's lines; `make test` is the gate.
 CARGO = cargo
 HARNESS = --manifest-path harness/Cargo.toml --offline --release --quiet
+FAIR = --manifest-path harness/Cargo.toml --offline --profile bench-fair --quiet
+FEATURES = --features engine,monitor
 
-.PHONY: test rust run
+.PHONY: run test parts compare host soak bench mutants size
 
-# Everything: the Rust tests, the layout of the sources, then every proof from nothing.
-test: rust
+# One tape, as text (.txt), as hex digits (.hex) or as bytes (.tape): make run TAPE=tapes/tape-x.txt
+TAPE = tapes/tape-x.txt
+run:
+	@mkdir -p target
+	@test -x target/bin/monitor || echo 'Proving and building the program: some minutes, once.' >&2
+	@rt check monitor > target/run.log 2>&1 || { cat target/run.log; exit 1; }
+	@$(CARGO) build $(HARNESS) --bins
+	@harness/target/release/tape bytes $(TAPE) > target/run.tape
+	@target/bin/monitor < target/run.tape
+
+# Everything: the engine and the program beside the second program, then, last, every proof from nothing.
+test: compare host
 	rt fmt --check
 	rt ci
 
-rust:
-	$(CARGO) test $(HARNESS)
+# What the Rust and C sides link and run.
+parts:
+	rt check monitor
+	rt staticlib boundary
 
-# One tape, as text or as bytes: make run TAPE=tapes/x.txt
-TAPE = tapes/tape-x.txt
-run:
-	@$(CARGO) run $(HARNESS) --bin tape -- encode $(TAPE) | $(CARGO) run $(HARNESS) --bin second
+compare: parts
+	$(CARGO) test $(HARNESS) $(FEATURES)
+
+# A host in C plays Tape X through the header.
+host: parts
+	gcc -std=c11 -Wall -Wextra -Werror -Iinclude harness/c/host.c target/staticlib/libboundary.a -o target/host
+	target/host | diff - tapes/tape-x.lines
+
+# Longer comparisons: make soak SOAK=50 takes fifty times the seeds, and shows the counts.
+SOAK = 10
+soak: parts
+	SOAK=$(SOAK) $(CARGO) test $(HARNESS) $(FEATURES) --test engine --test monitor --test streams -- --nocapture
+
+# The program beside the second program on the same tapes, as a ratio: make bench LONG=1 goes to ten million calls.
+bench: parts
+	$(CARGO) build $(FAIR) --bins
+	$(CARGO) run $(FAIR) --bin bench -- $(if $(LONG),--long)
+
+# Rules edited one by one: the serial order no longer follows.
+mutants:
+	tools/mutants
+
+# Lines of code, definitions, laws and answers, by crate.
+size:
+	@tools/size

@@ -98,3 +98,11 @@ fn unload_row(row: &Row, seats: &mut Vec<u64>) {
         seats.extend([entry.record, entry.value]);
     }
 }
+
+/// Puts a row into a seat table.
+pub fn put_row(seats: &mut [u64], seat: usize, row: &Row) {
+    let mut numbers = Vec::with_capacity(ROW);
+    unload_row(row, &mut numbers);
+    let from = 2 * OWNERS + seat * ROW;
+    seats[from..from + ROW].copy_from_slice(&numbers);
+}

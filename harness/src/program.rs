@@ -18,6 +18,10 @@ impl Program {
         Program { monitor: Monitor::new(Widths::REAL, &[]), ready: false }
     }
 
+    pub fn monitor(&self) -> &Monitor {
+        &self.monitor
+    }
+
     pub fn answer(&mut self, call: &TapeCall) -> Answer {
         match *call {
             TapeCall::Setup { .. } if self.ready => Refusal::SecondSetup.into(),

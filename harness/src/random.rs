@@ -1,5 +1,6 @@
 //! A small deterministic source of random numbers (splitmix), and checks over many seeds.
 
+use std::env;
 use std::ops::Range;
 use std::thread;
 
@@ -48,6 +49,15 @@ impl Random {
         }
         0
     }
+}
+
+/// The seeds of a test: so many, times `SOAK` where that variable is set.
+pub fn seeds(count: u64) -> Range<u64> {
+    let Some(times) = env::var_os("SOAK") else {
+        return 0..count;
+    };
+    let times: Option<u64> = times.to_str().and_then(|times| times.parse().ok());
+    0..count * times.expect("SOAK must be a number")
 }
 
 /// Runs the check once to each seed. If it fails, the seed is printed.

@@ -104,11 +104,16 @@ fn to_bytes(numbers: [u64; OWNERS]) -> Option<[u8; OWNERS]> {
 pub fn encode(calls: &[TapeCall]) -> Vec<u8> {
     let mut tape = vec![VERSION];
     for call in calls {
-        let body = call.body();
-        tape.extend((body.len() as u16).to_be_bytes());
-        tape.extend(body);
+        append(&mut tape, call);
     }
     tape
+}
+
+/// Puts one more call at the end of a tape.
+pub fn append(tape: &mut Vec<u8>, call: &TapeCall) {
+    let body = call.body();
+    tape.extend((body.len() as u16).to_be_bytes());
+    tape.extend(body);
 }
 
 /// What is wrong with a tape.

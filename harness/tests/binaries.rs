@@ -1,6 +1,8 @@
 //! The two programs from outside: their streams, their messages and their exit statuses.
 
+use std::fs;
 use std::io::Write;
+use std::path::Path;
 use std::process::{Command, Output, Stdio};
 
 const SECOND: &str = env!("CARGO_BIN_EXE_second");
@@ -46,13 +48,42 @@ fn a_bad_tape_is_told_on_standard_output() {
 }
 
 #[test]
+fn hex_to_tape() {
+    let tape = run(TAPE, &["hex"], b"01 # version\n0002 01fF\n\n");
+    assert!(tape.status.success());
+    assert_eq!(tape.stdout, [1, 0, 2, 1, 255]);
+    fails(&["hex"], b"01\n0 2", "line 2: '0' is not made of pairs of hex digits");
+    fails(&["hex"], b"0x", "line 1: '0x' is not made of pairs of hex digits");
+}
+
+#[test]
 fn errors_are_told_on_standard_error() {
     fails(&["encode"], b"open 0\nopen\n", "line 2: open takes one number, the owner");
     fails(&["decode"], b"", "bad tape, fault 31 at byte 0: there is no version byte 1");
-    let usage = "usage: tape encode [FILE] | tape decode [FILE]";
-    for arguments in [&[][..], &["play"], &["encode", "a", "b"]] {
+    let usage =
+        "usage: tape encode [FILE] | tape decode [FILE] | tape hex [FILE] | tape bytes FILE";
+    for arguments in [&[][..], &["play"], &["encode", "a", "b"], &["bytes"]] {
         fails(arguments, b"", usage);
     }
+}
+
+/// The file's ending says what it is: text, hex digits, or a tape already.
+#[test]
+fn files_by_their_ending() {
+    let folder = Path::new(env!("CARGO_TARGET_TMPDIR"));
+    let tape = [1, 0, 2, 1, 0];
+    for (name, contents) in
+        [("a.txt", &b"open 0\n"[..]), ("a.hex", b"01 0002 0100"), ("a.tape", &tape)]
+    {
+        let path = folder.join(name);
+        fs::write(&path, contents).expect("the folder can be written");
+        let path = path.to_str().expect("a plain path");
+        assert_eq!(run(TAPE, &["bytes", path], b"").stdout, tape, "{name}");
+    }
+    let bad = folder.join("bad.txt");
+    fs::write(&bad, "open\n").expect("the folder can be written");
+    let bad = bad.to_str().expect("a plain path");
+    fails(&["bytes", bad], b"", &format!("{bad}: line 1: open takes one number, the owner"));
 }
 
 #[test]

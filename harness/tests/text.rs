@@ -1,27 +1,9 @@
 //! The text tape: round trips both ways, canonical text, and errors that name line and reason.
 
-use second::random::{Random, each_seed};
+use second::lively::any_call;
+use second::random::each_seed;
 use second::tape::{TapeCall, calls, encode};
 use second::text;
-
-/// A call whose fields are any numbers at all, and often the greatest.
-fn any_call(random: &mut Random) -> TapeCall {
-    let (owner, seat) = (random.number() as u8, random.number() as u8);
-    let (record, value) = (random.number() as u16, random.number() >> random.below(64));
-    match random.below(6) {
-        0 => TapeCall::Setup {
-            count: record,
-            start: value,
-            shares: std::array::from_fn(|_| random.number() as u8 & owner),
-            limits: std::array::from_fn(|place| if place < 9 { seat } else { 0 }),
-        },
-        1 => TapeCall::Open { owner },
-        2 => TapeCall::Read { owner, seat, record },
-        3 => TapeCall::Write { owner, seat, record, value },
-        4 => TapeCall::Advance { owner, seat },
-        _ => TapeCall::Abandon { owner, seat },
-    }
-}
 
 fn error(text: &str) -> String {
     text::to_tape(text).expect_err(text).to_string()

@@ -2,32 +2,72 @@
 ghost use mathlib.Core.Path.{_≡_};
 ghost use Prim.Native.Nat.{_≤_};
 ghost use lib.ListN.{length};
+use libc::STDERR_FILENO;
 use libc::STDIN_FILENO;
 use libc::STDOUT_FILENO;
 use tape::Flow;
 use tape::Tally;
 
-// Writes the first `end` bytes of out.
-fn put(out: &[u8], end: usize) {
-    if end <= out.len() {
-        io::write_all(STDOUT_FILENO, &out[..end]);
-    }
+// What a read came to: where the bytes then end, and whether it failed.
+struct Input {
+    to: usize,
+    failed: bool,
 }
 
-// Reads once behind the bytes that wait, and answers where the bytes then end.
-fn fill(buf: &mut [u8], waiting: usize) -> usize
+// Writes the first `end` bytes of out, and answers whether they could be written.
+fn put(out: &[u8], end: usize) -> bool {
+    if end <= out.len() {
+        return io::write_all(STDOUT_FILENO, &out[..end]);
+    }
+    false
+}
+
+// An input that can't be read is no end of a tape: it gets a line of its own, apart from the tape's.
+fn complain() {
+    io::write_all(STDERR_FILENO, b"monitor: the tape can't be read\n");
+}
+
+// Reads once behind the bytes that wait.
+fn fill(buf: &mut [u8], waiting: usize) -> Input
     requires { ⌜ waiting ≤ length (now buf) ⌝ }
-    ensures { λ r. ⌜ (waiting ≤ r) × (r ≤ length (now (buf .entry))) ⌝ }
+    ensures { λ r. ⌜ (waiting ≤ r .to) × (r .to ≤ length (now (buf .entry))) ⌝ }
 {
     let got = libc::read(STDIN_FILENO, &mut buf[waiting..]);
+    if got < 0 {
+        return Input {
+            to: waiting,
+            failed: true,
+        };
+    }
     let n = io::count(got, buf);
     if n <= buf.len() - waiting {
-        return waiting + n;
+        return Input {
+            to: waiting + n,
+            failed: false,
+        };
     }
-    waiting
+    Input {
+        to: waiting,
+        failed: true,
+    }
 }
 
-// Reads once, takes every whole call and writes their lines. At the end of the input it writes the last line and stops.
+// The same flow, and no more of it.
+fn stopped(f: Flow) -> Flow
+    ensures { λ r. ⌜ r .waiting ≡ f .waiting ⌝ }
+{
+    Flow {
+        waiting: f.waiting,
+        calls: f.calls,
+        offset: f.offset,
+        records: f.records,
+        end: 0,
+        stopped: true,
+    }
+}
+
+// Reads once, takes every whole call and writes their lines. It stops at the end of the input, with the last line, and where nothing
+// more can be read or written.
 fn pump(
     f: Flow,
     buf: &mut [u8],
@@ -40,18 +80,16 @@ fn pump(
     ensures { λ r. ⌜ r .waiting ≤ length (now (buf .entry)) ⌝ }
 {
     let waiting = f.waiting;
-    let to = fill(buf, waiting);
+    let input = fill(buf, waiting);
+    if input.failed {
+        complain();
+        return stopped(f);
+    }
+    let to = input.to;
     if to == waiting {
         let end = tape::finish(out, 0, waiting == 0, f.calls, f.offset);
         put(out, end);
-        return Flow {
-            waiting,
-            calls: f.calls,
-            offset: f.offset,
-            records: f.records,
-            end: 0,
-            stopped: true,
-        };
+        return stopped(f);
     }
     let k = Tally {
         calls: f.calls,
@@ -59,8 +97,10 @@ fn pump(
         records: f.records,
     };
     let next = tape::absorb(buf, to, k, values, words, seats, out);
-    put(out, next.end);
-    next
+    if put(out, next.end) {
+        return next;
+    }
+    stopped(next)
 }
 
 // A proved loop has to end, and nothing says that the input does: it counts its turns down from a number that no run uses up.
@@ -111,6 +151,10 @@ fn main() {
     let mut out = output_buffer();
     let mut first = [0u8; 1];
     let got = libc::read(STDIN_FILENO, &mut first);
+    if got < 0 {
+        complain();
+        return;
+    }
     if got == 1 && first[0] == 1 {
         pump_all(&mut buf, &mut values, &mut words, &mut seats, &mut out);
         return;

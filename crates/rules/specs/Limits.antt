@@ -1,15 +1,19 @@
 -- What the definitions come to at their limits: which refusal is given first, and what U counts.
-use Prim.Native.Nat.{ℕ, _≤_, _<_}
-use mathlib.Core.Path.{_≡_}
-use mathlib.Core.Bool.{true, false}
+use Prim.Native.Nat.{ℕ, zero, suc, _≤_, _<_}
+use mathlib.Core.Path.{_≡_, refl, _∙_}
+use mathlib.Core.Bool.{Bool, true, false, _||_, true≢false}
 use mathlib.Core.List.{List}
+use native.Mathlib.Decide.{ℕ-discrete}
 use native.Mathlib.Omega.{arith}
-use borrow.Author.Tests.{le-leb, lt-leb}
-use lib.ListN.{getD}
+use borrow.Author.Tests.{le-leb, lt-leb, ltb-false}
+use lib.ListN.{length, getD}
 use Rattle.clock.specs.Word.{isLocked}
-use Rattle.rules.specs.Layout.{mostReads, row, reads, share}
+use Rattle.rules.specs.Layout.{owners, seatCount, mostReads, rowWidth, seatsLength, row, cell, put, reads, share, limit}
+use Rattle.rules.specs.Places.{length-put, cell-put, cell-put-field}
+use Rattle.rules.specs.Tests.{any, sumTo, oneOf, firstOf}
 use Rattle.rules.specs.Tables.{Tables, keep}
-use Rattle.rules.specs.Plan.{held, claim}
+use Rattle.rules.specs.Refusals.{unsized}
+use Rattle.rules.specs.Plan.{badShare, badPlan, held, claim, unsound, openRefusal, cleared, freed}
 use Rattle.rules.specs.Work.{firstRead}
 use Rattle.rules.specs.declared.Answer.the-variants.{Refused}
 
@@ -30,3 +34,36 @@ held-claim seats o = omega arith
 pub share-claim : (seats : List ℕ) (o : ℕ) → share seats o ≤ claim seats o
 unfolding claim
 share-claim seats o = omega arith
+
+-- a plan that Setup takes keeps the shares within the seats
+pub shares-fit : (plan : List ℕ) → badPlan plan ≡ false → sumTo (share plan) owners ≤ seatCount
+unfolding badPlan oneOf
+shares-fit plan e = ltb-false seatCount (sumTo (share plan) owners) (second (any (badShare plan) owners) _ e)
+  where
+    second : (a b : Bool) → a || b ≡ false → b ≡ false
+    second true b q = absurd (true≢false q)
+    second false b q = q
+
+-- an owner at its limit is refused 6, where nothing of a lower number is due
+pub at-limit : (t : Tables) (o : ℕ) → unsized (length (t .values)) (length (t .words)) (length (t .seats)) ≡ false → o < owners → unsound (t .seats) ≡ false →
+    limit (t .seats) o ≤ held (t .seats) o → openRefusal t o ≡ 6
+unfolding openRefusal firstOf
+at-limit t o a b c h = simp (a, lt-leb owners o b, c, le-leb _ _ h)
+
+-- a freed row is zero throughout
+length-cleared : (l : List ℕ) (s m : ℕ) → length (cleared l s m) ≡ length l
+unfolding cleared
+length-cleared l s zero = refl
+length-cleared l s (suc m) = length-put (cleared l s m) s m 0 ∙ length-cleared l s m
+
+cleared-zero : (l : List ℕ) (s f m : ℕ) → length l ≡ seatsLength → s < seatCount → f < m → m ≤ rowWidth → cell (cleared l s m) s f ≡ 0
+unfolding cleared
+cleared-zero l s f zero n h i j = absurd (omega arith)
+cleared-zero l s f (suc m) n h i j = go (ℕ-discrete f m) (λ k. cleared-zero l s f m n h k (omega arith))
+  where
+    go : Dec (f ≡ m) → (f < m → cell (cleared l s m) s f ≡ 0) → cell (put (cleared l s m) s m 0) s f ≡ 0
+    go (yes e) below = rw e (cell-put (cleared l s m) s m 0 (length-cleared l s m ∙ n) h (omega arith))
+    go (no d) below = cell-put-field (cleared l s m) s m 0 f (omega arith) d ∙ below (omega arith)
+
+pub row-freed : (l : List ℕ) (s f : ℕ) → length l ≡ seatsLength → s < seatCount → f < rowWidth → cell (freed l s) s f ≡ 0
+row-freed l s f n h k = cleared-zero l s f rowWidth n h k (omega arith)

@@ -1,0 +1,141 @@
+//! The proved engine, called through its C boundary on flat tables.
+
+use crate::answer::Answer;
+use crate::call::Call;
+use crate::flat::Flat;
+use crate::plan::{OWNERS, Plan};
+
+/// A table as the boundary takes it: where it starts, and its length.
+type Lent = *const u64;
+type LentMut = *mut u64;
+
+unsafe extern "C" {
+    fn ponsevran_setup(
+        values: Lent,
+        values_len: usize,
+        words: LentMut,
+        words_len: usize,
+        seats: LentMut,
+        seats_len: usize,
+        start: u64,
+        plan: Lent,
+        number: &mut u64,
+    ) -> u64;
+    fn ponsevran_open(
+        values: Lent,
+        values_len: usize,
+        words: Lent,
+        words_len: usize,
+        seats: LentMut,
+        seats_len: usize,
+        owner: u64,
+        number: &mut u64,
+    ) -> u64;
+    fn ponsevran_read(
+        values: Lent,
+        values_len: usize,
+        words: Lent,
+        words_len: usize,
+        seats: LentMut,
+        seats_len: usize,
+        owner: u64,
+        seat: u64,
+        record: u64,
+        number: &mut u64,
+    ) -> u64;
+    fn ponsevran_write(
+        values: Lent,
+        values_len: usize,
+        words: Lent,
+        words_len: usize,
+        seats: LentMut,
+        seats_len: usize,
+        owner: u64,
+        seat: u64,
+        record: u64,
+        value: u64,
+        number: &mut u64,
+    ) -> u64;
+    fn ponsevran_advance(
+        values: LentMut,
+        values_len: usize,
+        words: LentMut,
+        words_len: usize,
+        seats: LentMut,
+        seats_len: usize,
+        owner: u64,
+        seat: u64,
+        number: &mut u64,
+    ) -> u64;
+    fn ponsevran_abandon(
+        values: Lent,
+        values_len: usize,
+        words: LentMut,
+        words_len: usize,
+        seats: LentMut,
+        seats_len: usize,
+        owner: u64,
+        seat: u64,
+        number: &mut u64,
+    ) -> u64;
+}
+
+/// Lends the three tables to a call of the boundary. Each is lent with its own length, and none
+/// overlaps another: that is all that the boundary asks.
+macro_rules! lend {
+    ($call:ident, $tables:expr $(, $field:expr)*) => {{
+        let Flat { values, words, seats } = $tables;
+        let mut number = 0;
+        let word = unsafe {
+            $call(
+                values.as_mut_ptr(), values.len(), words.as_mut_ptr(), words.len(),
+                seats.as_mut_ptr(), seats.len(), $($field,)* &mut number,
+            )
+        };
+        told(word, number)
+    }};
+}
+
+/// The engine's answer to a call on these tables.
+pub fn answer(tables: &mut Flat, call: &Call) -> Answer {
+    match *call {
+        Call::Setup { start, plan } => {
+            lend!(ponsevran_setup, tables, start, flat_plan(&plan).as_ptr())
+        }
+        Call::Open { owner } => lend!(ponsevran_open, tables, owner),
+        Call::Read { owner, seat, record } => lend!(ponsevran_read, tables, owner, seat, record),
+        Call::Write { owner, seat, record, value } => {
+            lend!(ponsevran_write, tables, owner, seat, record, value)
+        }
+        Call::Advance { owner, seat } => lend!(ponsevran_advance, tables, owner, seat),
+        Call::Abandon { owner, seat } => lend!(ponsevran_abandon, tables, owner, seat),
+    }
+}
+
+/// Sixteen shares, then sixteen limits.
+fn flat_plan(plan: &Plan) -> [u64; 2 * OWNERS] {
+    let mut numbers = [0; 2 * OWNERS];
+    numbers[..OWNERS].copy_from_slice(&plan.shares);
+    numbers[OWNERS..].copy_from_slice(&plan.limits);
+    numbers
+}
+
+/// The answer of a word's number, as the boundary numbers them, and the number that it carries.
+fn told(word: u64, number: u64) -> Answer {
+    const WORDS: [fn(u64) -> Answer; 13] = [
+        Answer::Ready,
+        Answer::Seat,
+        Answer::Value,
+        Answer::Noted,
+        Answer::Locked,
+        Answer::Timed,
+        Answer::Checked,
+        Answer::Sealed,
+        Answer::Stored,
+        Answer::Done,
+        Answer::Dropped,
+        Answer::Refused,
+        Answer::Aborted,
+    ];
+    WORDS[word as usize](number)
+}
