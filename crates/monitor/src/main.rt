@@ -145,9 +145,9 @@ fn output_buffer() -> [u8; 852021]
 
 fn main() {
     let mut buf = input_buffer();
-    let mut values = [0u64; 1024];
-    let mut words = [0u64; 1024];
-    let mut seats = [0u64; 5536];
+    let mut values = [0u64; tape::RECORDS];
+    let mut words = [0u64; tape::RECORDS];
+    let mut seats = [0u64; tape::SEATS];
     let mut out = output_buffer();
     let mut first = [0u8; 1];
     let got = libc::read(STDIN_FILENO, &mut first);

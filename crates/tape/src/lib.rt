@@ -11,6 +11,9 @@ ghost use Rattle.tape.specs.declared.Decoded.the-variants.{Whole};
 ghost use Rattle.tape.specs.Turns.{stateOf, Taken, capped, Ran, Closed, Passed, Written, unfit, Absorbed};
 ghost use Rattle.tape.specs.Decode.{be16 as be16Of, be32 as be32Of, be64 as be64Of, frameOf, decoded, byKind, sized, planFrom, setupSize, openSize, readSize, writeSize, seatSize};
 use rules::Answer;
+use seats::layout::MOST_RECORDS;
+use seats::layout::PLAN_WIDTH;
+use seats::layout::SEATS_LENGTH;
 
 // What stands at the start of the rest of a tape.
 pub enum Frame {
@@ -99,6 +102,13 @@ pub struct Flow {
     pub end: usize,
     pub stopped: bool,
 }
+
+// The lengths of the program's tables.
+pub const RECORDS: usize = MOST_RECORDS as usize;
+
+pub const SEATS: usize = SEATS_LENGTH as usize;
+
+const PLAN: usize = PLAN_WIDTH as usize;
 
 const VERSION: u8 = 1;
 
@@ -270,23 +280,19 @@ fn say(out: &mut [u8], at: usize, n: u64, a: Answer) -> usize
 
 const PLAN_FROM: usize = 11;
 
-const PLAN_WIDTH: usize = 32;
-
 // The sixteen shares and sixteen limits of a Setup's body.
 fn plan_of(b: &[u8]) -> [u64; 32]
     requires { ⌜ length (now b) ≡ setupSize ⌝ }
     ensures { λ r. ⌜ r ≡ take planWidth (drop planFrom (now (b .entry))) ⌝ }
 {
-    let mut plan = [0u64; 32];
+    let mut plan = [0u64; PLAN];
     let mut i = 0;
-    while i < PLAN_WIDTH {
+    while i < PLAN {
         plan[i] = wide(b[PLAN_FROM + i]);
         i += 1;
     }
     plan
 }
-
-const MOST_RECORDS: u64 = 1024;
 
 // The number of the word that a Setup which succeeds is answered with.
 const READY: u64 = 0;
@@ -555,9 +561,9 @@ pub fn finish(out: &mut [u8], at: usize, whole: bool, calls: u64, offset: u64) -
 fn calls(part: &[u8], out: &mut [u8]) -> usize
     ensures { λ r. ⌜ Passed (callLines (now (part .entry))) (now (out .entry)) r (now (out .exit)) ⌝ }
 {
-    let mut values = [0u64; 1024];
-    let mut words = [0u64; 1024];
-    let mut seats = [0u64; 5536];
+    let mut values = [0u64; RECORDS];
+    let mut words = [0u64; RECORDS];
+    let mut seats = [0u64; SEATS];
     let start = Tally {
         calls: 0,
         offset: 1,
@@ -624,10 +630,10 @@ fn is_unfit(buffer: usize, to: usize, k: Tally, values: usize, words: usize, out
     if MOST_RECORDS < k.records {
         return true;
     }
-    if values != 1024 {
+    if values != RECORDS {
         return true;
     }
-    if words != 1024 {
+    if words != RECORDS {
         return true;
     }
     if out < 40 {
