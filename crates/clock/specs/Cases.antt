@@ -1,11 +1,11 @@
 -- P1 to P4 of document 01, and both sides of each limit of the word, computed from the definitions.
-use Prim.Native.Nat.{ℕ, _+_}
+use Prim.Native.Nat.{ℕ}
 use mathlib.Core.Path.{_≡_, refl}
-use mathlib.Core.Bool.{Bool, true, false}
+use mathlib.Core.Bool.{true, false}
 use mathlib.Core.List.{List, [], _∷_}
 use Rattle.clock.specs.declared.Packed.{Packed}
 use Rattle.clock.specs.declared.Packed.the-variants.{Word, Refused}
-use Rattle.clock.specs.Word.{distanceBits, timeBits, reach, span, top, lockBit, distance, writeTime, isLocked, word, fresh, extended, packed, freshAt, extendedTo}
+use Rattle.clock.specs.Word.{reach, span, top, lockBit, distance, writeTime, isLocked, word, fresh, extended, packed, freshAt, extendedTo}
 
 -- an answer in numbers: a word is itself, its write time and its distance; a refusal its number alone
 unfoldable pub told : Packed → List ℕ

@@ -26,10 +26,6 @@ pub readTime-fits : (w : ℕ) → readTime w < 2 ^ 63
 unfolding readTime writeTime distance span reach
 readTime-fits w = omega arith
 
-pub top-fits : top < 2 ^ 63
-unfolding top span
-top-fits = omega arith
-
 -- all that is to be known of a word
 pub record Is (w : ℕ) (lock : Bool) (write read : ℕ) : Type 0 where
   pub fits : w < 2 ^ 64

@@ -1,13 +1,13 @@
 -- What is known of a row that is not damaged, and of a call that names a seat and is not refused.
-use Prim.Native.Nat.{ℕ, zero, suc, _+_, _*_, _≤_, _<_}
-use mathlib.Core.Path.{_≡_, refl, sym, _∙_}
+use Prim.Native.Nat.{ℕ, zero, suc, _≤_, _<_}
+use mathlib.Core.Path.{_≡_, refl}
 use mathlib.Core.Logic.{_≢_}
-use mathlib.Core.Bool.{Bool, true, false, cond, not, _||_, _&&_, true≢false}
+use mathlib.Core.Bool.{Bool, true, false, cond, not, _||_, true≢false}
 use mathlib.Core.List.{List, [], _∷_}
 use native.Mathlib.Omega.{arith}
 use borrow.Author.Tests.{ltb-false, eqb-true, not-false, le-leb, leb-false, eqb-false, ne-eqb}
 use lib.Dec.{eqb, ltb}
-use lib.ListN.{length, getD}
+use lib.ListN.{length}
 use Rattle.clock.specs.Word.{top}
 use Rattle.rules.specs.Tests.{any, oneOf, firstOf}
 use Rattle.rules.specs.Layout.{owners, seatCount, mostRecords, mostReads, mostWrites, rowWidth, seatsLength, row, phase, owner, position, reads, writes, time, readItem, keptWrite, writeItem}
@@ -121,10 +121,6 @@ module _ (g : List ℕ) (records : ℕ) (h : Sound g records) where
   pub placed-three : phase g ≡ 3 → position g ≤ reads g
   unfolding misplaced
   placed-three e = ltb-false _ _ (rw e at (h .placed))
-
-  pub placed-four : phase g ≡ 4 → position g ≤ writes g
-  unfolding misplaced
-  placed-four e = ltb-false _ _ (rw e at (h .placed))
 
   pub placed-low : phase g ≢ 0 → phase g ≤ 2 → position g ≤ writes g
   placed-low d l = go (phase g) refl

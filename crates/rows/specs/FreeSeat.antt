@@ -1,13 +1,13 @@
 -- Open finds a free seat wherever it is not refused. If none were free, the owners would hold 64 seats between them, so U would be at least 64;
 -- it is not above 64, and the owner's own share is either used up, which is refusal 7, or makes U greater still.
-use Prim.Native.Nat.{ℕ, zero, suc, _+_, _≤_, _<_}
-use mathlib.Core.Path.{_≡_, refl, sym, _∙_}
+use Prim.Native.Nat.{ℕ, zero, suc, _≤_, _<_}
+use mathlib.Core.Path.{_≡_, refl}
 use mathlib.Core.Logic.{_≢_}
-use mathlib.Core.Bool.{Bool, true, false, cond, true≢false}
+use mathlib.Core.Bool.{Bool, true, false, cond}
 use mathlib.Core.List.{List}
 use native.Mathlib.Omega.{arith}
 use borrow.Author.Tests.{ltb-false, ltb-true, leb-false, eqb-false, eq-eqb, ne-eqb}
-use lib.Dec.{leb, ltb}
+use lib.Dec.{leb}
 use Rattle.rules.specs.Tests.{sumTo, count, any, first}
 use Rattle.rules.specs.Layout.{owners, seatCount, row, phase, owner, share}
 use Rattle.rules.specs.Tables.{Tables}

@@ -1,14 +1,13 @@
 -- A loop that looks for the first of n numbers that passes, from 0 on. `Passed p n i`: the search among n comes to what the search from i on comes to.
 use Rattle.rules.specs.Layout.{rowWidth}
 use Prim.Native.Nat.{ℕ, zero, suc, _+_, _-_, _*_, _≤_, _<_}
-use mathlib.Core.Path.{_≡_, refl, sym, ap, _∙_, subst}
+use mathlib.Core.Path.{_≡_, refl, sym, ap, _∙_}
 use mathlib.Core.Bool.{Bool, true, false, cond, true≢false}
 use mathlib.Core.Logic.{_≢_}
 use native.Mathlib.Omega.{arith}
 use native.Mathlib.Nat.{mul-le-mul-left}
 use native.Mathlib.Numerals.{add-one}
 use borrow.Author.Tests.{lt-ltb, le-ltb}
-use lib.Dec.{ltb}
 use Rattle.rules.specs.Tests.{scan, first, any}
 
 abbrev pub Passed : (ℕ → Bool) → ℕ → ℕ → Type 0

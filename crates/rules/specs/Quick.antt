@@ -1,6 +1,6 @@
 -- Worked cases compute quicker where held seats are counted in one walk over the rows. Here is that count, and a proof that Open, and so any
 -- list of calls, comes to the same with it. No promise cites it.
-use Prim.Native.Nat.{ℕ, zero, suc, _+_, _*_, max}
+use Prim.Native.Nat.{ℕ, zero, suc, _+_, max}
 use mathlib.Core.Path.{_≡_, refl, sym, ap, _∙_}
 use mathlib.Core.Bool.{Bool, false, cond, not, _&&_}
 use mathlib.Core.List.{List, [], _∷_}
@@ -10,7 +10,7 @@ use lib.Dec.{eqb, ltb, leb}
 use lib.ListN.{length, take, drop}
 use lib.Seq.{drop-drop}
 use Rattle.rules.specs.Tests.{any, count, sumTo, oneOf, firstOf}
-use Rattle.rules.specs.Layout.{owners, seatCount, planWidth, rowWidth, rowAt, row, phase, owner, share, limit}
+use Rattle.rules.specs.Layout.{owners, seatCount, rowWidth, rowAt, row, phase, owner, share, limit}
 use Rattle.rules.specs.Tables.{Tables, Outcome, after, unless}
 use Rattle.rules.specs.Refusals.{unsized}
 use Rattle.rules.specs.Plan.{setup, badPlan, badRow, holds, held, claim, claims, overLimit, unsound, crowded, openRefusal, freeSeat, opened, openSeat}

@@ -1,7 +1,7 @@
 -- 'What a caller is told, and in which order': refusals 1 to 5 of a call that names a seat. Open's and Setup's are in Plan.
 use Prim.Native.Nat.{ℕ}
 use mathlib.Core.List.{List, [], _∷_}
-use mathlib.Core.Bool.{Bool, true, false, cond, not, _||_, _&&_}
+use mathlib.Core.Bool.{Bool, false, cond, not, _||_, _&&_}
 use lib.ListN.{length}
 use lib.Dec.{eqb, ltb, leb}
 use Rattle.clock.specs.Word.{top}

@@ -1,7 +1,7 @@
 -- DEMAND 3, proved: a Setup begins a state that agrees, every call goes on to one, and such a state is what the statement says.
 use Prim.Native.Nat.{ℕ, zero, suc, _-_, _<_}
 use mathlib.Core.Path.{_≡_, refl, sym, ap, _∙_}
-use mathlib.Core.Logic.{⊎-elim, _≢_}
+use mathlib.Core.Logic.{⊎-elim}
 use mathlib.Core.Bool.{true, cond, true≢false}
 use mathlib.Core.List.{List, [], _∷_, List·Memᴰ as In, List·Memᴰ·head as here, List·Memᴰ·tail as there, List·Memᴰ·cases-cons as uncons, List·Memᴰ·not-nil as not-nil}
 use native.Mathlib.Omega.{arith}

@@ -1,6 +1,6 @@
 -- Tables lent in part: what comes back stands before the rest. Assumes nothing.
 use Prim.Native.Nat.{ℕ, _<_, _≤_}
-use mathlib.Core.Path.{_≡_, ap, sym, _∙_}
+use mathlib.Core.Path.{_≡_, ap, sym}
 use mathlib.Core.List.{List, _++_}
 use lib.ListN.{take, drop, take-append-drop}
 use borrow.Author.Tests.{lt-ltb, le-ltb}

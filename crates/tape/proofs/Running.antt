@@ -9,7 +9,7 @@ use mathlib.Core.List.{List, [], _++_}
 use lib.Dec.{leb, eqb}
 use lib.ListN.{length, take, drop, length-drop, length-append, drop-of-length-le}
 use lib.Seq.{length-take-le, sets, length-sets}
-use borrow.Author.Tests.{leb-true, leb-false, le-leb, eqb-true, lt-ltb}
+use borrow.Author.Tests.{leb-true, leb-false, le-leb, eqb-true}
 use Rattle.text.specs.Text.{putIn}
 use Rattle.text.specs.Puts.{sets-at, put-fits}
 use Rattle.rules.specs.Layout.{mostRecords}
@@ -25,7 +25,7 @@ use Rattle.tape.specs.declared.Progress.{Progress}
 use Rattle.tape.specs.declared.Turn.the-variants.{Wait, Said, Stop}
 use Rattle.tape.specs.Decode.{frameOf, decoded}
 use Rattle.tape.specs.Lines.{State, performed, recordsAfter, Turned, waits, stops, says, callTurn, frameTurn, turnOf, Fed, behind, fed}
-use Rattle.tape.specs.Turns.{turnIs, turnText, turnTables, Taken, most, capped, Ran}
+use Rattle.tape.specs.Turns.{Taken, most, capped, Ran}
 use Rattle.tape.proofs.Lending.{setup-again, setup-many}
 use Rattle.tape.proofs.Turning.{tested, Inside, inside}
 

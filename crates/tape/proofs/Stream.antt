@@ -11,7 +11,7 @@ use borrow.Author.Tests.{lt-ltb, le-ltb, le-leb}
 use Rattle.tape.specs.declared.Frame.{Frame}
 use Rattle.tape.specs.declared.Frame.the-variants.{Nothing, Short, Body}
 use Rattle.tape.specs.Decode.{be16, frameOf, decoded}
-use Rattle.tape.specs.Lines.{State, Turned, waits, stops, says, callTurn, frameTurn, turnOf, Fed, behind, fed, lastOf, opening, callLines, linesOf}
+use Rattle.tape.specs.Lines.{State, Turned, waits, stops, says, callTurn, frameTurn, turnOf, Fed, behind, fed, lastOf, opening, callLines}
 use Rattle.tape.specs.Parts.{inParts, joined}
 use Rattle.tape.proofs.Turning.{Inside, inside}
 use Rattle.tape.proofs.Running.{good, Good, fed-waits, fed-stops, fed-says, ended, turn-nothing}

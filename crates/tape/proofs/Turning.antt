@@ -1,14 +1,14 @@
 -- One turn: a call that was answered, a body that has its plan, a frame that lies within the tape. Assumes nothing.
 use Prim.Native.Nat.{ℕ, _+_, _-_, _≤_, _<_}
 use native.Mathlib.Omega.{arith}
-use mathlib.Core.Path.{_≡_, refl, sym, ap, subst, _∙_}
+use mathlib.Core.Path.{_≡_, refl, sym, ap, subst}
 use mathlib.Core.Bool.{Bool, true, false, cond}
 use mathlib.Core.List.{List, []}
 use lib.Dec.{ltb, leb, eqb}
 use lib.ListN.{length, getD}
 use borrow.Author.Tests.{eqb-true, leb-true, ltb-false}
 use Rattle.text.specs.Text.{widthIn, widthOf, digits, decimal, bytes, lastLine, putIn, Appended}
-use Rattle.rules.specs.Tables.{Outcome, tables, after}
+use Rattle.rules.specs.Tables.{tables, after}
 use Rattle.rules.specs.declared.Answer.{Answer}
 use Rattle.tape.specs.declared.Call.{Call}
 use Rattle.tape.specs.declared.Decoded.{Decoded}

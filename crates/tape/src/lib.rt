@@ -4,7 +4,7 @@ ghost use Prim.Native.Nat.{_+_, _-_, _≤_, _<_, _^_};
 ghost use lib.ListN.{length, getD, take, drop};
 ghost use lib.Seq.{paste};
 ghost use Rattle.text.specs.Text.{Appended};
-ghost use Rattle.rules.specs.Layout.{mostRecords, planWidth, seatsLength};
+ghost use Rattle.rules.specs.Layout.{mostRecords, planWidth};
 ghost use Rattle.rules.specs.Tables.{tables, after};
 ghost use Rattle.tape.specs.Lines.{lineOf, performed, PlanFits, recordsAfter, callTurn, turnOf, fed, endLine, callLines, linesOf};
 ghost use Rattle.tape.specs.declared.Decoded.the-variants.{Whole};

@@ -2,12 +2,12 @@
 use Prim.Native.Nat.{ℕ, zero, suc, _+_, _-_, _/_, _%_, _≤_, _<_}
 use native.Mathlib.Omega.{arith}
 use native.Mathlib.Numerals.{add-one}
-use native.Mathlib.Nat.{add-zero, add-suc, sub-eq-zero-of-le}
+use native.Mathlib.Nat.{add-suc, sub-eq-zero-of-le}
 use mathlib.Core.Path.{_≡_, refl, ap, sym, _∙_}
 use mathlib.Core.List.{List, [], _∷_, _++_}
-use lib.ListN.{length, set, drop, getD, length-append, drop-of-length-le}
+use lib.ListN.{length, set, drop, getD, drop-of-length-le}
 use lib.Seq.{sets, set-comm, drop-cons}
-use borrow.Author.Tests.{lt-ltb, le-ltb, le-leb, lt-leb}
+use borrow.Author.Tests.{lt-ltb, le-ltb}
 use Rattle.text.specs.Text.{widthIn, widthOf, digits, decimal, line, lastLine}
 use Rattle.text.specs.Puts.{sets-append, sets-at, length-digits}
 

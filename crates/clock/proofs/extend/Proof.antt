@@ -1,6 +1,5 @@
 -- `clock::extend` meets its contract. Assumes nothing.
-use Rattle.clock.specs.declared.Packed.the-variants.{Word}
-use mathlib.Core.Path.{ap, sym, _∙_}
+use mathlib.Core.Path.{sym}
 use Rattle.clock.specs.Laws.{extendedTo-word, extendedTo-early, extendedTo-late}
 use Rattle.clock.specs.Word.{reach, span, top, extended}
 use native.Mathlib.Omega.{arith}

@@ -1,15 +1,15 @@
 -- `tape::absorb` meets its contract. Assumes nothing.
-use Prim.Native.Nat.{ℕ, _+_, _-_, _≤_}
+use Prim.Native.Nat.{ℕ, _-_, _≤_}
 use native.Mathlib.Omega.{arith}
 use mathlib.Core.Path.{_≡_, refl, sym, ap, _∙_}
-use mathlib.Core.Bool.{true, false, true≢false}
+use mathlib.Core.Bool.{true≢false}
 use mathlib.Core.List.{List}
 use denote.Ref.{now}
-use lib.ListN.{length, take, drop}
-use lib.Seq.{length-take-le, paste}
+use lib.ListN.{length, take}
+use lib.Seq.{length-take-le}
 use Rattle.rules.specs.Tables.{tables}
 use Rattle.tape.specs.Turns.{stateOf}
-use Rattle.tape.proofs.Room.{Fit, fit, room, took}
+use Rattle.tape.proofs.Room.{fit, room, took}
 use Rattle.tape.proofs.Moved.{shift-front}
 use borrow.Author.Needs.{needs}
 use Rattle.tape.proofs.absorb.Statement.{statement}

@@ -5,7 +5,7 @@ use Prim.Native.Nat.{ℕ}
 use native.Mathlib.Omega.{arith}
 use denote.Ref.{now}
 use lib.Seq.{length-take-le}
-use Rattle.rules.specs.Tables.{Outcome, tables}
+use Rattle.rules.specs.Tables.{tables}
 use Rattle.rules.specs.Plan.{setup}
 use Rattle.rules.specs.Calls.{step}
 use Rattle.tape.specs.Lines.{lent}

@@ -4,7 +4,7 @@ use Rattle.tape.specs.declared.Frame.the-variants.{Body}
 use mathlib.Core.Path.{ap}
 use denote.Ref.{now}
 use lib.ListN.{length}
-use Prim.Native.Nat.{ℕ, _-_, _≤_, _<_}
+use Prim.Native.Nat.{_-_, _≤_, _<_}
 use native.Mathlib.Omega.{arith}
 use Rattle.tape.specs.Decode.{frameOf}
 use borrow.Author.Tests.{lt-ltb, le-ltb, le-leb, lt-leb}

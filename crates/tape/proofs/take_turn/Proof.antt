@@ -3,7 +3,7 @@ use mathlib.Core.Path.{refl, sym, _∙_}
 use native.Mathlib.Omega.{arith}
 use native.Mathlib.Nat.{add-sub-cancel-left}
 use denote.Ref.{now}
-use lib.ListN.{take, drop, length-drop}
+use lib.ListN.{drop, length-drop}
 use lib.Seq.{length-take-le}
 use Rattle.tape.specs.Lines.{turnOf, frameTurn}
 use Rattle.tape.proofs.Turning.{body-inside, body-length, put-nothing}

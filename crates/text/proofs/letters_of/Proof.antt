@@ -1,10 +1,8 @@
 -- `text::letters_of` meets its contract. Assumes nothing.
-use Prim.Native.Nat.{_≤_}
 use mathlib.Core.Path.{sym, _∙_}
 use denote.Ref.{now}
 use native.Mathlib.Omega.{arith}
 use borrow.Author.Needs.{needs}
-use lib.ListN.{length}
 use lib.Seq.{take-all, take-length}
 use Rattle.text.proofs.letters_of.Statement.{statement}
 use Rattle.text.proofs.letters_of.Tie as tie

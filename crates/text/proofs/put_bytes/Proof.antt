@@ -1,13 +1,12 @@
 -- `text::put_bytes` meets its contract. Assumes nothing.
 use Rattle.text.proofs.Laws.{sets-drop, sets-none}
 use denote.Ref.{now}
-use lib.Seq.{drop-length}
 use native.Mathlib.Nat.{add-zero}
 use lib.Seq.{sets}
 use lib.ListN.{length, drop, length-set}
 use native.Mathlib.Omega.{arith}
 use mathlib.Core.Path.{_≡_, _∙_}
-use Prim.Native.Nat.{ℕ, _+_, _≤_, _-_}
+use Prim.Native.Nat.{_+_, _≤_, _-_}
 use borrow.Author.Needs.{needs}
 use Rattle.text.proofs.put_bytes.Statement.{statement}
 use Rattle.text.proofs.put_bytes.Tie as tie

@@ -2,10 +2,10 @@
 use Rattle.text.proofs.Laws.{digits-back, digits-none}
 use Rattle.text.specs.Text.{digits}
 use lib.Seq.{sets}
-use lib.ListN.{length, drop, length-set}
+use lib.ListN.{length, length-set}
 use native.Mathlib.Omega.{arith}
 use mathlib.Core.Path.{_≡_, _∙_}
-use Prim.Native.Nat.{ℕ, _+_, _≤_, _-_}
+use Prim.Native.Nat.{_≤_}
 use borrow.Author.Needs.{needs}
 use Rattle.text.proofs.put_digits.Statement.{statement}
 use Rattle.text.proofs.put_digits.Tie as tie
