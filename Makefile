@@ -23,7 +23,7 @@ test: compare host
 
 # What the Rust and C sides link and run.
 parts:
-	rt check monitor
+	rt check monitor boundary
 	rt staticlib boundary
 
 compare: parts
