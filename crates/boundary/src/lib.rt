@@ -48,7 +48,7 @@ pub extern "C" fn ponsevran_read(
 ) -> u64
     ensures { λ r. ⌜ Given (read (tables (now (values .entry)) (now (words .entry)) (now (seats .entry))) owner seat item) r (now (number .exit)) (now (values .entry)) (now (words .entry)) (now (seats .exit)) ⌝ }
 {
-    let a = engine::read(values, words, seats, owner, seat, item);
+    let a = work::read(values, words, seats, owner, seat, item);
     *number = answers::number_of(a);
     answers::kind_of(a)
 }
@@ -66,7 +66,7 @@ pub extern "C" fn ponsevran_write(
 ) -> u64
     ensures { λ r. ⌜ Given (write (tables (now (values .entry)) (now (words .entry)) (now (seats .entry))) owner seat item value) r (now (number .exit)) (now (values .entry)) (now (words .entry)) (now (seats .exit)) ⌝ }
 {
-    let a = engine::write(values, words, seats, owner, seat, item, value);
+    let a = work::write(values, words, seats, owner, seat, item, value);
     *number = answers::number_of(a);
     answers::kind_of(a)
 }
@@ -82,7 +82,7 @@ pub extern "C" fn ponsevran_advance(
 ) -> u64
     ensures { λ r. ⌜ Given (advance (tables (now (values .entry)) (now (words .entry)) (now (seats .entry))) owner seat) r (now (number .exit)) (now (values .exit)) (now (words .exit)) (now (seats .exit)) ⌝ }
 {
-    let a = engine::advance(values, words, seats, owner, seat);
+    let a = commit::advance(values, words, seats, owner, seat);
     *number = answers::number_of(a);
     answers::kind_of(a)
 }
@@ -98,7 +98,7 @@ pub extern "C" fn ponsevran_abandon(
 ) -> u64
     ensures { λ r. ⌜ Given (abandon (tables (now (values .entry)) (now (words .entry)) (now (seats .entry))) owner seat) r (now (number .exit)) (now (values .entry)) (now (words .exit)) (now (seats .exit)) ⌝ }
 {
-    let a = engine::abandon(values, words, seats, owner, seat);
+    let a = commit::abandon(values, words, seats, owner, seat);
     *number = answers::number_of(a);
     answers::kind_of(a)
 }

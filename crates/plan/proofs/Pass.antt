@@ -18,7 +18,6 @@ use Rattle.rules.specs.Refusals.{unsized}
 use Rattle.rules.specs.Plan.{badShare, badPlan, badRow, holds, held, claim, isFree, freeSeat, laid, openRefusal, unsound}
 use Rattle.rows.specs.Search.{Passed, passed-more, found-first, found-none, some-passes, none-passes, none-at}
 use Rattle.rows.specs.Fine.{none-of, first-none}
-use Rattle.rows.specs.FreeSeat.{seat-found}
 use Rattle.plan.specs.Tally.{counted, lowest, Counts, Tallied, planRefusal}
 use Rattle.plan.specs.declared.Rows.{Rows}
 
@@ -97,12 +96,10 @@ module _ (values words seats : List ℕ) (o : ℕ) (n : unsized (length values) 
   unfolding openRefusal planRefusal firstOf
   open-refusal-by = simp (n, lt-leb _ _ l)
 
-  -- the free seat that the pass found is one
-  pub free-found : {counts : List ℕ} {rows : Rows} → Tallied seats counts rows → planRefusal seats o ≡ 0 → (rows .free ≡ freeSeat seats) × (rows .free < seatCount)
-  unfolding planRefusal unsound
-  free-found h e =
-      let f = h .free-is (h .bad-is ∙ none-of _ (first-none 2 _ e .0) .1 .0) in
-      (f, omega (arith, seat-found (tables values words seats) o (open-refusal-by ∙ e)))
+-- where Open is not refused, the pass went over all rows and found the lowest free seat
+pub free-found : {seats counts : List ℕ} {rows : Rows} (o : ℕ) → Tallied seats counts rows → planRefusal seats o ≡ 0 → rows .free ≡ freeSeat seats
+unfolding planRefusal unsound
+free-found o h e = h .free-is (h .bad-is ∙ none-of _ (first-none 2 _ e .0) .1 .0)
 
 -- THE PLAN
 pub share-over : (plan : List ℕ) (o : ℕ) {l s : ℕ} → s ≡ share plan o → l ≡ limit plan o → l < s → badShare plan o ≡ true

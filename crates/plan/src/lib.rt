@@ -14,6 +14,7 @@ use rules::Answer;
 use seats::at;
 use seats::fill;
 use seats::free_row;
+use seats::give;
 use seats::greater;
 use seats::is_unsized;
 use seats::layout::*;
@@ -210,12 +211,11 @@ fn plan_refusal(seats: &[u64], held: &[u64], rows: Rows, owner: u64) -> u64
 }
 
 fn open_row(seats: &mut [u64], seat: u64, owner: u64)
-    requires { ⌜ (seat < seatCount) × (length (now seats) ≡ seatsLength) ⌝ }
     ensures { λ _. ⌜ now (seats .exit) ≡ opened (now (seats .entry)) seat owner ⌝ }
 {
     free_row(seats, seat);
-    store(seats, PLAN_WIDTH + ROW_WIDTH * seat + PHASE, WORKING);
-    store(seats, PLAN_WIDTH + ROW_WIDTH * seat + OWNER, owner);
+    give(seats, seat, PHASE, WORKING);
+    give(seats, seat, OWNER, owner);
 }
 
 // The lowest free seat, where the plan allows the owner one.

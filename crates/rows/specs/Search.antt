@@ -48,9 +48,9 @@ some-passes p n i h l e = rw (found-first p n i h l e, lt-ltb)
 pub none-passes : (p : ℕ → Bool) (n i : ℕ) → Passed p n i → n ≤ i → any p n ≡ false
 none-passes p n i h l = rw (found-none p n i h l) (le-ltb n n (omega arith))
 
--- entry i of n entries of w numbers from b on lies in the row
-pub within : (b w n i : ℕ) → 0 < w → b + w * n ≤ rowWidth → i < n → b + w * i < rowWidth
-within b w n i p h l = omega (arith, mul-le-mul-left w (let e : i + 1 ≤ n = omega arith in e))
+-- entry i of n entries of w numbers from b on begins in the row
+pub within : (b w n i : ℕ) → b + w * n ≤ rowWidth → i < n → b + w * i ≤ rowWidth
+within b w n i h l = omega (arith, mul-le-mul-left w (let e : i ≤ n = omega arith in e))
 
 scan-le : (p : ℕ → Bool) (n i : ℕ) → scan p i n ≤ i + n
 unfolding scan

@@ -1,16 +1,17 @@
-// What the calls share: places of a table, a row's head, the refusals of a call that names a seat, a row freed.
+// What the calls share: places of a table, a seat's row, and the refusals of a call that names a seat.
 ghost use mathlib.Core.Path.{_≡_};
 ghost use mathlib.Core.List.{[], _∷_};
 ghost use mathlib.Core.Bool.{_&&_};
-ghost use Prim.Native.Nat.{_+_, _*_, max, _<_, _≤_};
-ghost use lib.Dec.{ltb, leb};
+ghost use Prim.Native.Nat.{_+_, _*_, min, max, _≤_};
+ghost use lib.Dec.{eqb, ltb, leb};
 ghost use lib.ListN.{length, getD, set, replicate};
-ghost use Rattle.rules.specs.Tests.{any, oneOf};
-ghost use Rattle.rules.specs.Layout.{seatCount, mostReads, mostWrites, rowWidth, seatsLength, row, phase as phaseOf, time as timeOf};
+ghost use Rattle.rules.specs.Tests.{any, oneOf, first as firstOf};
+ghost use Rattle.rules.specs.Layout.{mostReads, mostWrites, rowWidth, rowAt, row, put, phase as phaseOf, time as timeOf};
 ghost use Rattle.rules.specs.Tables.{tables};
 ghost use Rattle.rules.specs.Refusals.{unsized, misnamed, misplaced, late, badRead, badWrite, damaged, refusal};
+ghost use Rattle.rules.specs.Plan.{freed};
+ghost use Rattle.rules.specs.Work.{readNames, writeNames};
 ghost use Rattle.seats.specs.Heads.{headOf, badHead, rowRefusal};
-ghost use Rattle.seats.specs.Freeing.{freedIn};
 
 pub mod layout;
 
@@ -55,6 +56,42 @@ pub fn fill(list: &mut [u64], v: u64)
     }
 }
 
+pub fn greater(a: u64, b: u64) -> u64
+    ensures { λ r. ⌜ r ≡ max a b ⌝ }
+{
+    if a < b { b } else { a }
+}
+
+fn lesser(a: u64, b: u64) -> u64
+    ensures { λ r. ⌜ r ≡ min a b ⌝ }
+{
+    if a < b { a } else { b }
+}
+
+// A SEAT'S ROW
+// Where a row begins in a table of n numbers: at the table's end where that comes first.
+fn row_from(n: u64, seat: u64) -> u64
+    ensures { λ r. ⌜ r ≡ min (rowAt seat) n ⌝ }
+{
+    if n < PLAN_WIDTH {
+        return n;
+    }
+    if (n - PLAN_WIDTH) / ROW_WIDTH < seat {
+        return n;
+    }
+    PLAN_WIDTH + ROW_WIDTH * seat
+}
+
+// The part of the seat table that is the seat's row.
+pub fn row_of(seats: &[u64], seat: u64) -> &[u64]
+    ensures { λ r. ⌜ now r ≡ row (now (seats .entry)) seat ⌝ }
+{
+    let n = seats.len() as u64;
+    let from = row_from(n, seat);
+    let to = lesser(from + ROW_WIDTH, n);
+    &seats[from as usize..to as usize]
+}
+
 pub fn head_of(row: &[u64]) -> Head
     ensures { λ r. ⌜ r ≡ headOf (now (row .entry)) ⌝ }
 {
@@ -68,19 +105,60 @@ pub fn head_of(row: &[u64]) -> Head
     }
 }
 
-pub fn greater(a: u64, b: u64) -> u64
-    ensures { λ r. ⌜ r ≡ max a b ⌝ }
+pub fn head_at(seats: &[u64], seat: u64) -> Head
+    ensures { λ r. ⌜ r ≡ headOf (row (now (seats .entry)) seat) ⌝ }
 {
-    if a < b { b } else { a }
+    head_of(row_of(seats, seat))
 }
 
-// A number of a row's entry: `first` is where it stands in the first entry, `width` how far on in the next.
-fn entry(row: &[u64], first: u64, width: u64, i: u64) -> u64
-    requires { ⌜ first + width * i < length (now row) ⌝ }
-    ensures { λ r. ⌜ r ≡ getD (now (row .entry)) (first + width * i) 0 ⌝ }
+// A store at a place of a seat's row.
+pub fn give(seats: &mut [u64], seat: u64, field: u64, v: u64)
+    ensures { λ _. ⌜ now (seats .exit) ≡ put (now (seats .entry)) seat field v ⌝ }
 {
-    let k = (first + width * i) as usize;
-    row[k]
+    let n = seats.len() as u64;
+    let from = row_from(n, seat);
+    if field < n - from {
+        store(seats, from + field, v);
+    }
+}
+
+// A row freed: zero throughout.
+pub fn free_row(seats: &mut [u64], seat: u64)
+    ensures { λ _. ⌜ now (seats .exit) ≡ freed (now (seats .entry)) seat ⌝ }
+{
+    let n = seats.len() as u64;
+    let from = row_from(n, seat);
+    let to = lesser(from + ROW_WIDTH, n);
+    fill(&mut seats[from as usize..to as usize], 0);
+}
+
+// The first of a row's n entries that names the record; n where none does. `first` is where the record's number stands in the first entry, `width` how far on in the next.
+fn find(row: &[u64], first: u64, width: u64, n: u64, item: u64) -> u64
+    requires { ⌜ first + width * n ≤ rowWidth ⌝ }
+    ensures { λ r. ⌜ r ≡ firstOf (λ i. eqb (getD (now (row .entry)) (first + width * i) 0) item) n ⌝ }
+{
+    let mut i = 0;
+    while i < n {
+        if at(row, first + width * i) == item {
+            return i;
+        }
+        i += 1;
+    }
+    n
+}
+
+// The first of a row's n read entries that names the record; n where none does. A row has no more than 16.
+pub fn read_of(row: &[u64], n: u64, item: u64) -> u64
+    ensures { λ r. ⌜ r ≡ firstOf (readNames (now (row .entry)) item) (min n mostReads) ⌝ }
+{
+    find(row, READ_ITEM, READ_WIDTH, lesser(n, MOST_READS), item)
+}
+
+// The first of a row's n write entries that names the record; n where none does. A row has no more than 8.
+pub fn write_of(row: &[u64], n: u64, item: u64) -> u64
+    ensures { λ r. ⌜ r ≡ firstOf (writeNames (now (row .entry)) item) (min n mostWrites) ⌝ }
+{
+    find(row, WRITE_ITEM, WRITE_WIDTH, lesser(n, MOST_WRITES), item)
 }
 
 // REFUSAL 1: the tables' lengths.
@@ -161,13 +239,13 @@ fn is_bad_read(item: u64, kept: u64, records: u64, phase: u64, time: u64) -> boo
 }
 
 fn some_bad_read(row: &[u64], reads: u64, records: u64, phase: u64, time: u64) -> bool
-    requires { ⌜ (length (now row) ≡ rowWidth) × (reads ≤ mostReads) × (phase ≡ phaseOf (now row)) × (time ≡ timeOf (now row)) ⌝ }
+    requires { ⌜ (reads ≤ mostReads) × (phase ≡ phaseOf (now row)) × (time ≡ timeOf (now row)) ⌝ }
     ensures { λ r. ⌜ r ≡ any (badRead (now (row .entry)) records) reads ⌝ }
 {
     let mut i = 0;
     while i < reads {
-        let item = entry(row, READ_ITEM, READ_WIDTH, i);
-        let kept = entry(row, KEPT_WRITE, READ_WIDTH, i);
+        let item = at(row, READ_ITEM + READ_WIDTH * i);
+        let kept = at(row, KEPT_WRITE + READ_WIDTH * i);
         if is_bad_read(item, kept, records, phase, time) {
             return true;
         }
@@ -177,12 +255,12 @@ fn some_bad_read(row: &[u64], reads: u64, records: u64, phase: u64, time: u64) -
 }
 
 fn some_bad_write(row: &[u64], writes: u64, records: u64) -> bool
-    requires { ⌜ (length (now row) ≡ rowWidth) × (writes ≤ mostWrites) ⌝ }
+    requires { ⌜ writes ≤ mostWrites ⌝ }
     ensures { λ r. ⌜ r ≡ any (badWrite (now (row .entry)) records) writes ⌝ }
 {
     let mut i = 0;
     while i < writes {
-        if records <= entry(row, WRITE_ITEM, WRITE_WIDTH, i) {
+        if records <= at(row, WRITE_ITEM + WRITE_WIDTH * i) {
             return true;
         }
         i += 1;
@@ -191,7 +269,7 @@ fn some_bad_write(row: &[u64], writes: u64, records: u64) -> bool
 }
 
 fn is_damaged(row: &[u64], head: Head, records: u64) -> bool
-    requires { ⌜ (length (now row) ≡ rowWidth) × (head ≡ headOf (now row)) ⌝ }
+    requires { ⌜ head ≡ headOf (now row) ⌝ }
     ensures { λ r. ⌜ r ≡ damaged (now (row .entry)) records ⌝ }
 {
     if head.phase == FREE {
@@ -208,7 +286,6 @@ fn is_damaged(row: &[u64], head: Head, records: u64) -> bool
 
 // REFUSALS 3 TO 5, from the row.
 fn row_refusal(row: &[u64], records: u64, owner: u64, last: u64) -> u64
-    requires { ⌜ length (now row) ≡ rowWidth ⌝ }
     ensures { λ r. ⌜ r ≡ rowRefusal (now (row .entry)) records owner last ⌝ }
 {
     let head = head_of(row);
@@ -225,15 +302,6 @@ fn row_refusal(row: &[u64], records: u64, owner: u64, last: u64) -> u64
         return 5;
     }
     0
-}
-
-fn row_of(seats: &[u64], seat: u64) -> &[u64]
-    requires { ⌜ (seat < seatCount) × (length (now seats) ≡ seatsLength) ⌝ }
-    ensures { λ r. ⌜ (now r ≡ row (now (seats .entry)) seat) × (length (now r) ≡ rowWidth) ⌝ }
-{
-    let from = (PLAN_WIDTH + ROW_WIDTH * seat) as usize;
-    let to = from + ROW_WIDTH as usize;
-    &seats[from..to]
 }
 
 // What a call that names a seat is refused for, lowest number first; 0 where it is not. `last` is the last phase that the call is for.
@@ -256,19 +324,4 @@ pub fn refusal_of(
         return 2;
     }
     row_refusal(row_of(seats, seat), records, owner, last)
-}
-
-// A row freed: zero throughout. A table of another length, or a seat out of range, stays as it is.
-pub fn free_row(seats: &mut [u64], seat: u64)
-    ensures { λ _. ⌜ now (seats .exit) ≡ freedIn (now (seats .entry)) seat ⌝ }
-{
-    if seats.len() as u64 != SEATS_LENGTH {
-        return;
-    }
-    if SEATS <= seat {
-        return;
-    }
-    let from = (PLAN_WIDTH + ROW_WIDTH * seat) as usize;
-    let to = from + ROW_WIDTH as usize;
-    fill(&mut seats[from..to], 0);
 }

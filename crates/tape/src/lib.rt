@@ -340,7 +340,7 @@ fn perform(
     match c {
         Call::Setup { count, start } => set_up(count, start, b, records, values, words, seats),
         Call::Open(owner) => plan::open(&values[..n], &words[..n], seats, owner),
-        Call::Read { owner, seat, item } => engine::read(
+        Call::Read { owner, seat, item } => work::read(
             &values[..n],
             &words[..n],
             seats,
@@ -353,15 +353,15 @@ fn perform(
             seat,
             item,
             value,
-        } => engine::write(&values[..n], &words[..n], seats, owner, seat, item, value),
-        Call::Advance { owner, seat } => engine::advance(
+        } => work::write(&values[..n], &words[..n], seats, owner, seat, item, value),
+        Call::Advance { owner, seat } => commit::advance(
             &mut values[..n],
             &mut words[..n],
             seats,
             owner,
             seat,
         ),
-        Call::Abandon { owner, seat } => engine::abandon(
+        Call::Abandon { owner, seat } => commit::abandon(
             &values[..n],
             &mut words[..n],
             seats,

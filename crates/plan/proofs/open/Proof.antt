@@ -45,9 +45,7 @@ returns-3 c = let a = c .before .before .before .before .before .before .before 
     simp (open-refusal-by (now (a .values)) (now (a .words)) (now (a .seats)) (a .owner) u (c .before .before .before .before .before .before .before .before .if2 .left), ← c .before .plan-refusal .ensures, ne-eqb _ _ (c .if3 .taken))
 
 open-row-requires : tie.Need-open-row-requires
-open-row-requires c κs = let a = c .before .before .before .before .before .before .before .before .before .before .before .before .before .before .before .args in
-    let u = sym (c .before .before .before .before .before .before .before .before .before .before .before .is-unsized .ensures) ∙ c .before .before .before .before .before .before .before .before .before .before .if1 .left in
-    (free-found (now (a .values)) (now (a .words)) (now (a .seats)) (a .owner) u (c .before .before .before .before .before .before .before .before .before .if2 .left) (c .before .before .before .before .before .before .tally .ensures) (sym (c .before .before .plan-refusal .ensures) ∙ c .before .if3 .left) .1, sized-of (tables (now (a .values)) (now (a .words)) (now (a .seats))) u .rows)
+open-row-requires c κs = search needs
 
 same-length-2 : tie.Need-same-length-2
 same-length-2 c = search needs
@@ -56,8 +54,8 @@ returns-4 : tie.Need-returns-4
 unfolding openSeat
 returns-4 c = let a = c .before .before .before .before .before .before .before .before .before .before .before .before .before .before .before .before .before .before .args in
     let u = sym (c .before .before .before .before .before .before .before .before .before .before .before .before .before .before .is-unsized .ensures) ∙ c .before .before .before .before .before .before .before .before .before .before .before .before .before .if1 .left in
-    let f = free-found (now (a .values)) (now (a .words)) (now (a .seats)) (a .owner) u (c .before .before .before .before .before .before .before .before .before .before .before .before .if2 .left) (c .before .before .before .before .before .before .before .before .before .tally .ensures) (sym (c .before .before .before .before .before .plan-refusal .ensures) ∙ c .before .before .before .before .if3 .left) in
-    simp (open-refusal-by (now (a .values)) (now (a .words)) (now (a .seats)) (a .owner) u (c .before .before .before .before .before .before .before .before .before .before .before .before .if2 .left), ← c .before .before .before .before .before .plan-refusal .ensures, eq-eqb _ _ (c .before .before .before .before .if3 .left), c .before .before .open-row .ensures, ← f .0)
+    let f = free-found (a .owner) (c .before .before .before .before .before .before .before .before .before .tally .ensures) (sym (c .before .before .before .before .before .plan-refusal .ensures) ∙ c .before .before .before .before .if3 .left) in
+    simp (open-refusal-by (now (a .values)) (now (a .words)) (now (a .seats)) (a .owner) u (c .before .before .before .before .before .before .before .before .before .before .before .before .if2 .left), ← c .before .before .before .before .before .plan-refusal .ensures, eq-eqb _ _ (c .before .before .before .before .if3 .left), c .before .before .open-row .ensures, ← f)
 
 pub open-spec : {M : Type 1} → statement M
 open-spec =

@@ -5,7 +5,7 @@ use mathlib.Core.List.{_++_}
 use mathlib.Core.Path.{_≡_, refl}
 use native.Mathlib.Omega.{arith}
 use lib.ListN.{drop, length, length-set, replicate}
-use Rattle.seats.specs.Freeing.{filled-end, filled-more}
+use Rattle.seats.specs.RowPart.{filled-end, filled-more}
 use Rattle.seats.proofs.fill.Statement.{statement}
 use Rattle.seats.proofs.fill.Tie as tie
 

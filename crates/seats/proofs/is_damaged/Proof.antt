@@ -7,26 +7,26 @@ use Rattle.seats.proofs.is_damaged.Statement.{statement}
 use Rattle.seats.proofs.is_damaged.Tie as tie
 
 returns : tie.Need-returns
-returns c = simp (damaged-by _ (c .before .before .before .pre .1), eq-eqb _ _ (c .if1 .taken))
+returns c = simp (damaged-by _ (c .before .before .before .pre), eq-eqb _ _ (c .if1 .taken))
 
 is-bad-head-requires : tie.Need-is-bad-head-requires
 is-bad-head-requires c κs = search needs
 
 returns-2 : tie.Need-returns-2
 returns-2 c = simp (
-  damaged-by _ (c .before .before .before .before .before .pre .1),
+  damaged-by _ (c .before .before .before .before .before .pre),
   c .if2 .taken,
   ← c .before .is-bad-head .ensures,
   ne-eqb _ _ (c .before .before .if1 .left),
 )
 
 some-bad-read-requires : tie.Need-some-bad-read-requires
-some-bad-read-requires c κs = let h = head-is (c .before .before .before .before .before .pre .1) in
-    (c .before .before .before .before .before .pre .0, head-fits _ (sym (c .before .is-bad-head .ensures) ∙ c .if2 .left) .0, h .phase-is, h .time-is)
+some-bad-read-requires c κs = let h = head-is (c .before .before .before .before .before .pre) in
+    (head-fits _ (sym (c .before .is-bad-head .ensures) ∙ c .if2 .left) .0, h .phase-is, h .time-is)
 
 returns-3 : tie.Need-returns-3
 returns-3 c = simp (
-  damaged-by _ (c .before .before .before .before .before .before .before .pre .1),
+  damaged-by _ (c .before .before .before .before .before .before .before .pre),
   c .if3 .taken,
   ← c .before .some-bad-read .ensures,
   c .before .before .if2 .left,
@@ -35,11 +35,11 @@ returns-3 c = simp (
 )
 
 some-bad-write-requires : tie.Need-some-bad-write-requires
-some-bad-write-requires c κs = (c .before .before .before .before .before .before .before .pre .0, head-fits _ (sym (c .before .before .before .is-bad-head .ensures) ∙ c .before .before .if2 .left) .1)
+some-bad-write-requires c κs = head-fits _ (sym (c .before .before .before .is-bad-head .ensures) ∙ c .before .before .if2 .left) .1
 
 returns-4 : tie.Need-returns-4
 returns-4 c = simp (
-  damaged-by _ (c .before .before .before .before .before .before .before .before .pre .1),
+  damaged-by _ (c .before .before .before .before .before .before .before .before .pre),
   ← c .some-bad-write .ensures,
   c .before .if3 .left,
   ← c .before .before .some-bad-read .ensures,

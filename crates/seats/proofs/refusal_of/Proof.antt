@@ -1,12 +1,7 @@
 -- `seats::refusal_of` meets its contract. Assumes nothing.
-use denote.Ref.{now}
-use mathlib.Core.Path.{_∙_, sym}
 use borrow.Author.Needs.{needs}
-use borrow.Author.Tests.{leb-false}
-use Rattle.rules.specs.Refusals.{misnamed, refusal}
-use Rattle.rules.specs.Tables.{tables}
+use Rattle.rules.specs.Refusals.{refusal}
 use Rattle.rules.specs.Tests.{firstOf}
-use Rattle.rows.specs.Fine.{none-of, sized-of}
 use Rattle.seats.specs.Heads.{rowRefusal}
 use Rattle.seats.proofs.refusal_of.Statement.{statement}
 use Rattle.seats.proofs.refusal_of.Tie as tie
@@ -34,9 +29,7 @@ returns-2 c = simp (
 )
 
 row-of-requires : tie.Need-row-of-requires
-unfolding misnamed
-row-of-requires c κs = let a = c .before .before .before .before .before .before .before .args in
-    (leb-false _ _ (none-of _ (sym (c .before .is-misnamed .ensures) ∙ c .if2 .left) .1 .0), sized-of (tables (now (a .values)) (now (a .words)) (now (a .seats))) (sym (c .before .before .before .is-unsized .ensures) ∙ c .before .before .if1 .left) .rows)
+row-of-requires c κs = search needs
 
 row-refusal-requires : tie.Need-row-refusal-requires
 row-refusal-requires c κs = search needs
@@ -45,7 +38,7 @@ returns-3 : tie.Need-returns-3
 unfolding refusal rowRefusal firstOf
 returns-3 c = simp (
   c .row-refusal .ensures,
-  c .before .row-of .ensures .0,
+  c .before .row-of .ensures,
   c .before .before .if2 .left,
   ← c .before .before .before .is-misnamed .ensures,
   c .before .before .before .before .if1 .left,

@@ -1,19 +1,17 @@
 -- `seats::row_of` meets its contract. Assumes nothing.
-use native.Mathlib.Nat.{add-sub-cancel-left}
 use borrow.Author.Needs.{needs}
-use Rattle.rules.specs.Layout.{row}
-use Rattle.rules.specs.Places.{length-row}
+use Rattle.seats.specs.RowPart.{row-part}
 use Rattle.seats.proofs.row_of.Statement.{statement}
 use Rattle.seats.proofs.row_of.Tie as tie
 
-mul-from : tie.Need-mul-from
-mul-from c = search needs
+row-from-requires : tie.Need-row-from-requires
+row-from-requires c κs = search needs
 
-add-from : tie.Need-add-from
-add-from c = search needs
+add-lesser : tie.Need-add-lesser
+add-lesser c = search needs
 
-add-to : tie.Need-add-to
-add-to c = search needs
+lesser-requires : tie.Need-lesser-requires
+lesser-requires c κs = search needs
 
 mul-result : tie.Need-mul-result
 mul-result c = search needs
@@ -28,16 +26,15 @@ part-result-end : tie.Need-part-result-end
 part-result-end c = search needs
 
 returns : tie.Need-returns
-unfolding row
-returns c = let e = length-row _ _ (c .before .pre .1) (c .before .pre .0) in (rw add-sub-cancel-left, rw add-sub-cancel-left e)
+returns c = row-part _ _ (c .before .before .row-from .ensures) (c .before .lesser .ensures)
 
 pub row-of-spec : {M : Type 1} → statement M
 row-of-spec =
     tie.close
     (tie.spec
-    mul-from
-    add-from
-    add-to
+    row-from-requires
+    add-lesser
+    lesser-requires
     mul-result
     sub-result
     part-result-start

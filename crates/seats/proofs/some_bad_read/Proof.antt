@@ -17,11 +17,23 @@ abbrev μ-loop : tie.MeasureT-loop
 loop-holds : tie.Need-loop-holds Inv-loop μ-loop
 loop-holds c = passed-none _ _
 
-entry-requires : tie.Need-entry-requires Inv-loop μ-loop
-entry-requires c κs = omega arith
+mul-at : tie.Need-mul-at Inv-loop μ-loop
+mul-at c = omega arith
 
-entry-requires-2 : tie.Need-entry-requires-2 Inv-loop μ-loop
-entry-requires-2 c κs = omega arith
+add-at : tie.Need-add-at Inv-loop μ-loop
+add-at c = omega arith
+
+at-requires : tie.Need-at-requires Inv-loop μ-loop
+at-requires c κs = search needs
+
+mul-at-2 : tie.Need-mul-at-2 Inv-loop μ-loop
+mul-at-2 c = omega arith
+
+add-at-2 : tie.Need-add-at-2 Inv-loop μ-loop
+add-at-2 c = omega arith
+
+at-requires-2 : tie.Need-at-requires-2 Inv-loop μ-loop
+at-requires-2 c κs = search needs
 
 is-bad-read-requires : tie.Need-is-bad-read-requires Inv-loop μ-loop
 is-bad-read-requires c κs = search needs
@@ -29,7 +41,7 @@ is-bad-read-requires c κs = search needs
 returns : tie.Need-returns Inv-loop μ-loop
 unfolding badRead
 returns c = sym (some-passes _ _ _ (c .before .before .before .before .before .loop .inv) (c .before .before .before .before .loop-test .taken)
-    (simp (← c .before .before .before .before .before .before .before .pre .2, ← c .before .before .before .before .before .before .before .pre .3, ← c .before .before .before .entry .ensures, ← c .before .before .entry2 .ensures, ← c .before .is-bad-read .ensures) (c .if1 .taken)))
+    (simp (← c .before .before .before .before .before .before .before .pre .1, ← c .before .before .before .before .before .before .before .pre .2, ← c .before .before .before .at .ensures, ← c .before .before .at2 .ensures, ← c .before .is-bad-read .ensures) (c .if1 .taken)))
 
 add-i : tie.Need-add-i Inv-loop μ-loop
 add-i c = omega arith
@@ -40,7 +52,7 @@ loop-less c = omega arith
 loop-again : tie.Need-loop-again Inv-loop μ-loop
 unfolding badRead
 loop-again c = passed-more _ _ _ (c .before .before .before .before .before .loop .inv) (c .before .before .before .before .loop-test .taken)
-    (simp (← c .before .before .before .before .before .before .before .pre .2, ← c .before .before .before .before .before .before .before .pre .3, ← c .before .before .before .entry .ensures, ← c .before .before .entry2 .ensures, ← c .before .is-bad-read .ensures) (c .if1 .left))
+    (simp (← c .before .before .before .before .before .before .before .pre .1, ← c .before .before .before .before .before .before .before .pre .2, ← c .before .before .before .at .ensures, ← c .before .before .at2 .ensures, ← c .before .is-bad-read .ensures) (c .if1 .left))
 
 returns-2 : tie.Need-returns-2 Inv-loop μ-loop
 returns-2 c = sym (none-passes _ _ _ (c .before .loop .inv) (c .loop-test .left))
@@ -52,8 +64,12 @@ some-bad-read-spec =
     Inv-loop
     μ-loop
     loop-holds
-    entry-requires
-    entry-requires-2
+    mul-at
+    add-at
+    at-requires
+    mul-at-2
+    add-at-2
+    at-requires-2
     is-bad-read-requires
     returns
     add-i

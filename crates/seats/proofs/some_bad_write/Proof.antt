@@ -2,6 +2,7 @@
 use Prim.Native.Nat.{_-_}
 use mathlib.Core.Path.{sym}
 use native.Mathlib.Omega.{arith}
+use borrow.Author.Needs.{needs}
 use borrow.Author.Tests.{le-leb, lt-leb}
 use Rattle.rules.specs.Refusals.{badWrite}
 use Rattle.rows.specs.Search.{Passed, none-passes, passed-more, passed-none, some-passes}
@@ -17,12 +18,18 @@ abbrev μ-loop : tie.MeasureT-loop
 loop-holds : tie.Need-loop-holds Inv-loop μ-loop
 loop-holds c = passed-none _ _
 
-entry-requires : tie.Need-entry-requires Inv-loop μ-loop
-entry-requires c κs = omega arith
+mul-at : tie.Need-mul-at Inv-loop μ-loop
+mul-at c = omega arith
+
+add-at : tie.Need-add-at Inv-loop μ-loop
+add-at c = omega arith
+
+at-requires : tie.Need-at-requires Inv-loop μ-loop
+at-requires c κs = search needs
 
 returns : tie.Need-returns Inv-loop μ-loop
 unfolding badWrite
-returns c = sym (some-passes _ _ _ (c .before .before .before .loop .inv) (c .before .before .loop-test .taken) (simp (← c .before .entry .ensures, le-leb _ _ (c .if1 .taken))))
+returns c = sym (some-passes _ _ _ (c .before .before .before .loop .inv) (c .before .before .loop-test .taken) (simp (← c .before .at .ensures, le-leb _ _ (c .if1 .taken))))
 
 add-i : tie.Need-add-i Inv-loop μ-loop
 add-i c = omega arith
@@ -32,7 +39,7 @@ loop-less c = omega arith
 
 loop-again : tie.Need-loop-again Inv-loop μ-loop
 unfolding badWrite
-loop-again c = passed-more _ _ _ (c .before .before .before .loop .inv) (c .before .before .loop-test .taken) (simp (← c .before .entry .ensures, lt-leb _ _ (c .if1 .left)))
+loop-again c = passed-more _ _ _ (c .before .before .before .loop .inv) (c .before .before .loop-test .taken) (simp (← c .before .at .ensures, lt-leb _ _ (c .if1 .left)))
 
 returns-2 : tie.Need-returns-2 Inv-loop μ-loop
 returns-2 c = sym (none-passes _ _ _ (c .before .loop .inv) (c .loop-test .left))
@@ -44,7 +51,9 @@ some-bad-write-spec =
     Inv-loop
     μ-loop
     loop-holds
-    entry-requires
+    mul-at
+    add-at
+    at-requires
     returns
     add-i
     loop-less
