@@ -9,8 +9,8 @@ use Rattle.rules.specs.Calls as rule
 use Rattle.rules.specs.Tables.{Tables, Outcome, after, keep}
 use Rattle.rules.specs.declared.Answer.{Answer}
 use Rattle.rules.specs.declared.Answer.the-variants.{Refused}
-use Rattle.tape.specs.declared.Call.the-variants.{Setup}
-use Rattle.tape.specs.Decode.{planFrom}
+use Rattle.frames.specs.declared.Call.the-variants.{Setup}
+use Rattle.frames.specs.Decode.{planFrom}
 use Rattle.tape.specs.Lines.{whole, lending, performed}
 
 -- a table that is only read comes back as it was

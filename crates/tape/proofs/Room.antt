@@ -15,13 +15,13 @@ use Rattle.rules.specs.Answers.{word, number}
 use Rattle.rules.specs.Tables.{Tables}
 use Rattle.rules.specs.declared.Answer.{Answer}
 use Rattle.rules.specs.declared.Answer.the-variants.{Ready, Seat, Value, Noted, Locked, Timed, Checked, Sealed, Stored, Done, Dropped, Refused, Aborted}
-use Rattle.tape.specs.declared.Decoded.{Decoded}
-use Rattle.tape.specs.declared.Decoded.the-variants.{Whole, Unknown, Misfit}
-use Rattle.tape.specs.declared.Frame.{Frame}
-use Rattle.tape.specs.declared.Frame.the-variants.{Nothing, Short, Body}
+use Rattle.frames.specs.declared.Decoded.{Decoded}
+use Rattle.frames.specs.declared.Decoded.the-variants.{Whole, Unknown, Misfit}
+use Rattle.frames.specs.declared.Frame.{Frame}
+use Rattle.frames.specs.declared.Frame.the-variants.{Nothing, Short, Body}
 use Rattle.tape.specs.declared.Progress.{Progress}
 use Rattle.tape.specs.declared.Tally.{Tally}
-use Rattle.tape.specs.Decode.{frameOf, decoded}
+use Rattle.frames.specs.Decode.{frameOf, decoded}
 use Rattle.tape.specs.Lines.{State, performed, stopLine, Turned, waits, stops, says, callTurn, frameTurn, turnOf, Fed, behind, fed}
 use Rattle.tape.specs.Turns.{most, Ran, Took, farOff, unfit}
 use Rattle.rows.specs.Fine.{none-of}

@@ -15,15 +15,15 @@ use Rattle.text.specs.Puts.{sets-at, put-fits}
 use Rattle.rules.specs.Layout.{mostRecords}
 use Rattle.rules.specs.Answers.{kind, ready}
 use Rattle.rules.specs.Tables.{Tables}
-use Rattle.tape.specs.declared.Call.{Call}
-use Rattle.tape.specs.declared.Call.the-variants.{Setup, Open, Read, Write, Advance, Abandon}
-use Rattle.tape.specs.declared.Decoded.{Decoded}
-use Rattle.tape.specs.declared.Decoded.the-variants.{Whole, Unknown, Misfit}
-use Rattle.tape.specs.declared.Frame.{Frame}
-use Rattle.tape.specs.declared.Frame.the-variants.{Nothing, Short, Body}
+use Rattle.frames.specs.declared.Call.{Call}
+use Rattle.frames.specs.declared.Call.the-variants.{Setup, Open, Read, Write, Advance, Abandon}
+use Rattle.frames.specs.declared.Decoded.{Decoded}
+use Rattle.frames.specs.declared.Decoded.the-variants.{Whole, Unknown, Misfit}
+use Rattle.frames.specs.declared.Frame.{Frame}
+use Rattle.frames.specs.declared.Frame.the-variants.{Nothing, Short, Body}
 use Rattle.tape.specs.declared.Progress.{Progress}
 use Rattle.tape.specs.declared.Turn.the-variants.{Wait, Said, Stop}
-use Rattle.tape.specs.Decode.{frameOf, decoded}
+use Rattle.frames.specs.Decode.{frameOf, decoded}
 use Rattle.tape.specs.Lines.{State, performed, recordsAfter, Turned, waits, stops, says, callTurn, frameTurn, turnOf, Fed, behind, fed}
 use Rattle.tape.specs.Turns.{Taken, most, capped, Ran}
 use Rattle.tape.proofs.Lending.{setup-again, setup-many}

@@ -8,9 +8,9 @@ use mathlib.Core.List.{List, [], _∷_, _++_, append-nil, append-assoc}
 use lib.ListN.{length, take, drop, getD, length-drop, length-append, List·getD-append}
 use lib.Seq.{take-append-le, drop-append-le}
 use borrow.Author.Tests.{lt-ltb, le-ltb, le-leb}
-use Rattle.tape.specs.declared.Frame.{Frame}
-use Rattle.tape.specs.declared.Frame.the-variants.{Nothing, Short, Body}
-use Rattle.tape.specs.Decode.{be16, frameOf, decoded}
+use Rattle.frames.specs.declared.Frame.{Frame}
+use Rattle.frames.specs.declared.Frame.the-variants.{Nothing, Short, Body}
+use Rattle.frames.specs.Decode.{be16, frameOf, decoded}
 use Rattle.tape.specs.Lines.{State, Turned, waits, stops, says, callTurn, frameTurn, turnOf, Fed, behind, fed, lastOf, opening, callLines}
 use Rattle.tape.specs.Parts.{inParts, joined}
 use Rattle.tape.proofs.Turning.{Inside, inside}

@@ -10,13 +10,13 @@ use borrow.Author.Tests.{eqb-true, leb-true, ltb-false}
 use Rattle.text.specs.Text.{widthIn, widthOf, digits, decimal, bytes, lastLine, putIn, Appended}
 use Rattle.rules.specs.Tables.{tables, after}
 use Rattle.rules.specs.declared.Answer.{Answer}
-use Rattle.tape.specs.declared.Call.{Call}
-use Rattle.tape.specs.declared.Decoded.{Decoded}
-use Rattle.tape.specs.declared.Decoded.the-variants.{Whole, Unknown, Misfit}
-use Rattle.tape.specs.declared.Frame.{Frame}
-use Rattle.tape.specs.declared.Frame.the-variants.{Nothing, Short, Body}
+use Rattle.frames.specs.declared.Call.{Call}
+use Rattle.frames.specs.declared.Decoded.{Decoded}
+use Rattle.frames.specs.declared.Decoded.the-variants.{Whole, Unknown, Misfit}
+use Rattle.frames.specs.declared.Frame.{Frame}
+use Rattle.frames.specs.declared.Frame.the-variants.{Nothing, Short, Body}
 use Rattle.tape.specs.declared.Turn.the-variants.{Said, Stop}
-use Rattle.tape.specs.Decode.{be16, frameOf, setupSize, openSize, readSize, writeSize, seatSize, byKind, decoded}
+use Rattle.frames.specs.Decode.{be16, frameOf, setupSize, openSize, readSize, writeSize, seatSize, byKind, decoded}
 use Rattle.tape.specs.Lines.{State, PlanFits, performed, lineOf, recordsAfter, stopLine, callTurn}
 use Rattle.tape.specs.Turns.{Taken}
 

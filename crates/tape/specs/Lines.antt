@@ -12,13 +12,13 @@ use Rattle.rules.specs.Tables.{Tables, Outcome, tables, unless}
 use Rattle.rules.specs.Calls.{step}
 use Rattle.rules.specs.Calls as rule
 use Rattle.rules.specs.declared.Answer.{Answer}
-use Rattle.tape.specs.declared.Call.{Call}
-use Rattle.tape.specs.declared.Call.the-variants.{Setup, Open, Read, Write, Advance, Abandon}
-use Rattle.tape.specs.declared.Decoded.{Decoded}
-use Rattle.tape.specs.declared.Decoded.the-variants.{Whole, Unknown, Misfit}
-use Rattle.tape.specs.declared.Frame.{Frame}
-use Rattle.tape.specs.declared.Frame.the-variants.{Nothing, Short, Body}
-use Rattle.tape.specs.Decode.{frameOf, decoded, planFrom, setupSize}
+use Rattle.frames.specs.declared.Call.{Call}
+use Rattle.frames.specs.declared.Call.the-variants.{Setup, Open, Read, Write, Advance, Abandon}
+use Rattle.frames.specs.declared.Decoded.{Decoded}
+use Rattle.frames.specs.declared.Decoded.the-variants.{Whole, Unknown, Misfit}
+use Rattle.frames.specs.declared.Frame.{Frame}
+use Rattle.frames.specs.declared.Frame.the-variants.{Nothing, Short, Body}
+use Rattle.frames.specs.Decode.{frameOf, decoded, planFrom, setupSize}
 
 -- what the program keeps: the calls so far, the offset of the next, the records that Setup gave (0 before it has succeeded), and its tables
 pub record State : Type 0 where

@@ -6,19 +6,10 @@ use mathlib.Core.List.{List}
 use lib.ListN.{drop}
 use lib.Seq.{paste}
 use Rattle.rules.specs.Tables.{Tables}
-use Rattle.tape.specs.declared.Decoded.{Decoded}
 use Rattle.tape.specs.declared.Flow.{Flow}
-use Rattle.tape.specs.declared.Frame.{Frame}
 use Rattle.tape.specs.declared.Tally.{Tally}
-use Rattle.tape.specs.Decode.{frameOf, decoded}
 use Rattle.tape.specs.Lines.{Fed}
 use Rattle.tape.specs.Turns.{Closed, Written, Took, Absorbed}
-
-pub split-one : (t : List ℕ) (r q : Frame) → r ≡ frameOf t → q ≡ frameOf t → r ≡ q
-split-one t r q e f = e ∙ sym f
-
-pub decode-one : (b : List ℕ) (r q : Decoded) → r ≡ decoded b → q ≡ decoded b → r ≡ q
-decode-one b r q e f = e ∙ sym f
 
 pub finish-one : {before xs : List ℕ} {at r q : ℕ} {a b : List ℕ} → Closed before at xs r a → Closed before at xs q b → (r ≡ q) × (a ≡ b)
 finish-one p q = (p .end ∙ sym (q .end), p .text ∙ sym (q .text))

@@ -1,14 +1,14 @@
 -- `tape::plan_of` meets its contract: the numbers before place i are the plan's. Assumes nothing.
-use Prim.Native.Nat.{_≤_, _-_}
+use Prim.Native.Nat.{_+_, _-_, _≤_}
 use native.Mathlib.Omega.{arith}
-use mathlib.Core.Path.{_≡_, refl, sym, _∙_}
+use mathlib.Core.Path.{_≡_, refl, sym}
 use denote.Ref.{now}
 use borrow.Author.Needs.{needs}
 use lib.ListN.{length, take, drop, length-set, length-drop}
 use lib.Seq.{getD-drop}
 use Rattle.tape.proofs.Copies.{copied-more, copied-all}
 use Rattle.rules.specs.Layout.{planWidth}
-use Rattle.tape.specs.Decode.{planFrom}
+use Rattle.frames.specs.Decode.{planFrom}
 use Rattle.tape.proofs.plan_of.Statement.{statement}
 use Rattle.tape.proofs.plan_of.Tie as tie
 
@@ -21,14 +21,14 @@ abbrev μ-loop : tie.MeasureT-loop
 loop-holds : tie.Need-loop-holds Inv-loop μ-loop
 loop-holds c = (search needs, refl, refl)
 
-add-wide : tie.Need-add-wide Inv-loop μ-loop
-add-wide c = search needs
+add-plan : tie.Need-add-plan Inv-loop μ-loop
+add-plan c = search needs
 
-shared-slice-read-wide : tie.Need-shared-slice-read-wide Inv-loop μ-loop
-shared-slice-read-wide c = search needs
+shared-slice-read-plan : tie.Need-shared-slice-read-plan Inv-loop μ-loop
+shared-slice-read-plan c = search needs
 
-wide-requires : tie.Need-wide-requires Inv-loop μ-loop
-wide-requires c κs = search needs
+cast-plan : tie.Need-cast-plan Inv-loop μ-loop
+cast-plan c = omega (arith, c .shared-slice-known .given (planFrom + c .before .before .loop .i))
 
 mul-plan : tie.Need-mul-plan Inv-loop μ-loop
 mul-plan c = search needs
@@ -44,17 +44,17 @@ loop-less c = search needs
 
 loop-again : tie.Need-loop-again Inv-loop μ-loop
 loop-again c =
-    let b = now (c .before .before .before .before .before .args .b) in
-    let i = c .before .before .before .loop .i in (
+    let b = now (c .before .before .before .args .b) in
+    let i = c .before .before .loop .i in (
       search needs,
       simp length-set (omega arith),
-      copied-more (drop planFrom b) (c .before .before .before .loop .plan) i (c .wide .result) (omega (arith, length-drop planFrom b)) (omega arith)
-          (c .wide .ensures .0 ∙ sym (getD-drop planFrom b i 0)) (c .before .before .before .loop .inv .2),
+      copied-more (drop planFrom b) (c .before .before .loop .plan) i _ (omega (arith, length-drop planFrom b)) (omega arith)
+          (sym (getD-drop planFrom b i 0)) (c .before .before .loop .inv .2),
     )
 
 returns : tie.Need-returns Inv-loop μ-loop
 returns c =
-    copied-all (drop planFrom (now (c .before .before .before .args .b))) (c .before .loop .plan) planWidth (c .before .loop .i) (omega arith) (omega arith)
+    copied-all (drop planFrom (now (c .before .before .args .b))) (c .before .loop .plan) planWidth (c .before .loop .i) (omega arith) (omega arith)
     (c .before .loop .inv .2)
 
 pub plan-of-spec : {M : Type 1} → statement M
@@ -64,9 +64,9 @@ plan-of-spec =
     Inv-loop
     μ-loop
     loop-holds
-    add-wide
-    shared-slice-read-wide
-    wide-requires
+    add-plan
+    shared-slice-read-plan
+    cast-plan
     mul-plan
     array-write-plan
     add-i

@@ -1,16 +1,16 @@
--- `tape::split` meets its contract. Assumes nothing.
-use Rattle.tape.specs.Decode.{be16}
-use Rattle.tape.specs.declared.Frame.the-variants.{Body}
+-- `frames::split` meets its contract. Assumes nothing.
+use Rattle.frames.specs.Decode.{be16}
+use Rattle.frames.specs.declared.Frame.the-variants.{Body}
 use mathlib.Core.Path.{ap}
 use denote.Ref.{now}
 use lib.ListN.{length}
 use Prim.Native.Nat.{_-_, _≤_, _<_}
 use native.Mathlib.Omega.{arith}
-use Rattle.tape.specs.Decode.{frameOf}
+use Rattle.frames.specs.Decode.{frameOf}
 use borrow.Author.Tests.{lt-ltb, le-ltb, le-leb, lt-leb}
 use borrow.Author.Needs.{needs}
-use Rattle.tape.proofs.split.Statement.{statement}
-use Rattle.tape.proofs.split.Tie as tie
+use Rattle.frames.proofs.split.Statement.{statement}
+use Rattle.frames.proofs.split.Tie as tie
 
 returns : tie.Need-returns
 unfolding frameOf

@@ -1,8 +1,8 @@
--- `tape::setup_of` meets its contract. Assumes nothing.
+-- `frames::setup_of` meets its contract. Assumes nothing.
 use borrow.Author.Tests.{eq-eqb, ne-eqb}
 use borrow.Author.Needs.{needs}
-use Rattle.tape.proofs.setup_of.Statement.{statement}
-use Rattle.tape.proofs.setup_of.Tie as tie
+use Rattle.frames.proofs.setup_of.Statement.{statement}
+use Rattle.frames.proofs.setup_of.Tie as tie
 
 be16-requires : tie.Need-be16-requires
 be16-requires c κs = search needs

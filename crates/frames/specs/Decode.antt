@@ -4,12 +4,12 @@ use mathlib.Core.Bool.{cond}
 use mathlib.Core.List.{List}
 use lib.Dec.{ltb, leb, eqb}
 use lib.ListN.{length, getD}
-use Rattle.tape.specs.declared.Call.{Call}
-use Rattle.tape.specs.declared.Call.the-variants.{Setup, Open, Read, Write, Advance, Abandon}
-use Rattle.tape.specs.declared.Decoded.{Decoded}
-use Rattle.tape.specs.declared.Decoded.the-variants.{Whole, Unknown, Misfit}
-use Rattle.tape.specs.declared.Frame.{Frame}
-use Rattle.tape.specs.declared.Frame.the-variants.{Nothing, Short, Body}
+use Rattle.frames.specs.declared.Call.{Call}
+use Rattle.frames.specs.declared.Call.the-variants.{Setup, Open, Read, Write, Advance, Abandon}
+use Rattle.frames.specs.declared.Decoded.{Decoded}
+use Rattle.frames.specs.declared.Decoded.the-variants.{Whole, Unknown, Misfit}
+use Rattle.frames.specs.declared.Frame.{Frame}
+use Rattle.frames.specs.declared.Frame.the-variants.{Nothing, Short, Body}
 
 -- big-endian numbers of 2, 4 and 8 bytes from place i on
 abbrev pub be16 : List ℕ → ℕ → ℕ

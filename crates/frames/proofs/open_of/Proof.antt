@@ -1,8 +1,8 @@
--- `tape::open_of` meets its contract. Assumes nothing.
+-- `frames::open_of` meets its contract. Assumes nothing.
 use borrow.Author.Tests.{eq-eqb, ne-eqb}
 use borrow.Author.Needs.{needs}
-use Rattle.tape.proofs.open_of.Statement.{statement}
-use Rattle.tape.proofs.open_of.Tie as tie
+use Rattle.frames.proofs.open_of.Statement.{statement}
+use Rattle.frames.proofs.open_of.Tie as tie
 
 shared-slice-read-wide : tie.Need-shared-slice-read-wide
 shared-slice-read-wide c = search needs

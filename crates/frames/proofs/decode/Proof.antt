@@ -1,9 +1,9 @@
--- `tape::decode` meets its contract. Assumes nothing.
+-- `frames::decode` meets its contract. Assumes nothing.
 use borrow.Author.Tests.{lt-ltb, le-ltb}
-use Rattle.tape.specs.Decode.{decoded}
+use Rattle.frames.specs.Decode.{decoded}
 use borrow.Author.Needs.{needs}
-use Rattle.tape.proofs.decode.Statement.{statement}
-use Rattle.tape.proofs.decode.Tie as tie
+use Rattle.frames.proofs.decode.Statement.{statement}
+use Rattle.frames.proofs.decode.Tie as tie
 
 shared-slice-read-by-kind : tie.Need-shared-slice-read-by-kind
 shared-slice-read-by-kind c = search needs

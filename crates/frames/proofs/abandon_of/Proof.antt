@@ -1,8 +1,8 @@
--- `tape::advance_of` meets its contract. Assumes nothing.
+-- `frames::abandon_of` meets its contract. Assumes nothing.
 use borrow.Author.Tests.{eq-eqb, ne-eqb}
 use borrow.Author.Needs.{needs}
-use Rattle.tape.proofs.advance_of.Statement.{statement}
-use Rattle.tape.proofs.advance_of.Tie as tie
+use Rattle.frames.proofs.abandon_of.Statement.{statement}
+use Rattle.frames.proofs.abandon_of.Tie as tie
 
 shared-slice-read-wide : tie.Need-shared-slice-read-wide
 shared-slice-read-wide c = search needs
@@ -22,8 +22,8 @@ returns c = simp (eq-eqb _ _ (c .before .before .before .before .if1 .taken)) (c
 returns-2 : tie.Need-returns-2
 returns-2 c = simp (ne-eqb _ _ (c .if1 .left))
 
-pub advance-of-spec : {M : Type 1} → statement M
-advance-of-spec =
+pub abandon-of-spec : {M : Type 1} → statement M
+abandon-of-spec =
     tie.close
     (tie.spec
     shared-slice-read-wide

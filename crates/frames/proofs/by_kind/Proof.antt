@@ -1,9 +1,9 @@
--- `tape::by_kind` meets its contract. Assumes nothing.
+-- `frames::by_kind` meets its contract. Assumes nothing.
 use borrow.Author.Tests.{ne-eqb}
-use Rattle.tape.specs.Decode.{byKind}
+use Rattle.frames.specs.Decode.{byKind}
 use borrow.Author.Needs.{needs}
-use Rattle.tape.proofs.by_kind.Statement.{statement}
-use Rattle.tape.proofs.by_kind.Tie as tie
+use Rattle.frames.proofs.by_kind.Statement.{statement}
+use Rattle.frames.proofs.by_kind.Tie as tie
 
 setup-of-requires : tie.Need-setup-of-requires
 setup-of-requires c κs = search needs
