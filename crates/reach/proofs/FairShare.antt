@@ -13,7 +13,7 @@ use Rattle.rules.specs.Layout.{owners, seatCount, planWidth, shareAt, limitAt, 
 use Rattle.rules.specs.Places.{length-row}
 use Rattle.rules.specs.Tables.{Tables, Outcome, after, keep}
 use Rattle.rules.specs.Answers.{ready, seat, refused, kind, number}
-use Rattle.rules.specs.Plan.{holds, held, crowded, openRefusal, isFree, freeSeat, opened, openSeat}
+use Rattle.rules.specs.Plan.{holds, held, claims, crowded, openRefusal, isFree, freeSeat, opened, openSeat}
 use Rattle.rules.specs.Calls.{Call, Setup, Open, Read, Write, Advance, Abandon, step, run, history}
 use Rattle.rules.specs.declared.Answer.{Answer}
 use Rattle.rules.specs.declared.Answer.the-variants.{Seat, Refused}
@@ -70,7 +70,7 @@ asked t k o small =
     (λ a. let x = leb-false (limitOf t o) (holding t o) a in
     let below : holding t o ≢ limitOf t o = omega arith in
     by (leb (shareOf t o) (holding t o))
-    (λ b. by (eqb (U t) seatCount)
+    (λ b. by (eqb (claims (t .seats)) seatCount)
     (λ c. no-room below (leb-true _ _ b) (eqb-true _ _ c) (opens-not t o 7 (omega arith) (e ∙ rw (a, b, c) refl)))
     (λ c. gets-seat below (inr (eqb-false _ _ c)) (e ∙ rw (a, b, c) refl)))
     (λ b. gets-seat below (inl (leb-false _ _ b)) (e ∙ rw (a, b) refl)))
