@@ -52,62 +52,29 @@ pub fn number_of(a: Answer) -> u64
     }
 }
 
+fn word_of(letters: [u8; 10], len: usize) -> Spelled
+    ensures { λ r. ⌜ r ≡ record { letters = letters; len = len } ⌝ }
+{
+    Spelled { letters, len }
+}
+
 // The word of an answer.
 pub fn spell(a: Answer) -> Spelled
     ensures { λ r. ⌜ r ≡ spelling a ⌝ }
 {
     match a {
-        Answer::Ready(_) => Spelled {
-            letters: *b"ready     ",
-            len: 5,
-        },
-        Answer::Seat(_) => Spelled {
-            letters: *b"seat      ",
-            len: 4,
-        },
-        Answer::Value(_) => Spelled {
-            letters: *b"value     ",
-            len: 5,
-        },
-        Answer::Noted(_) => Spelled {
-            letters: *b"noted     ",
-            len: 5,
-        },
-        Answer::Locked(_) => Spelled {
-            letters: *b"locked    ",
-            len: 6,
-        },
-        Answer::Timed(_) => Spelled {
-            letters: *b"timed     ",
-            len: 5,
-        },
-        Answer::Checked(_) => Spelled {
-            letters: *b"checked   ",
-            len: 7,
-        },
-        Answer::Sealed(_) => Spelled {
-            letters: *b"sealed    ",
-            len: 6,
-        },
-        Answer::Stored(_) => Spelled {
-            letters: *b"stored    ",
-            len: 6,
-        },
-        Answer::Done(_) => Spelled {
-            letters: *b"done      ",
-            len: 4,
-        },
-        Answer::Dropped(_) => Spelled {
-            letters: *b"dropped   ",
-            len: 7,
-        },
-        Answer::Refused(_) => Spelled {
-            letters: *b"refused   ",
-            len: 7,
-        },
-        Answer::Aborted(_) => Spelled {
-            letters: *b"aborted   ",
-            len: 7,
-        },
+        Answer::Ready(_) => word_of(*b"ready     ", 5),
+        Answer::Seat(_) => word_of(*b"seat      ", 4),
+        Answer::Value(_) => word_of(*b"value     ", 5),
+        Answer::Noted(_) => word_of(*b"noted     ", 5),
+        Answer::Locked(_) => word_of(*b"locked    ", 6),
+        Answer::Timed(_) => word_of(*b"timed     ", 5),
+        Answer::Checked(_) => word_of(*b"checked   ", 7),
+        Answer::Sealed(_) => word_of(*b"sealed    ", 6),
+        Answer::Stored(_) => word_of(*b"stored    ", 6),
+        Answer::Done(_) => word_of(*b"done      ", 4),
+        Answer::Dropped(_) => word_of(*b"dropped   ", 7),
+        Answer::Refused(_) => word_of(*b"refused   ", 7),
+        Answer::Aborted(_) => word_of(*b"aborted   ", 7),
     }
 }

@@ -33,15 +33,9 @@ pub enum Turn {
     // More bytes are wanted.
     Wait,
     // A call was answered: the bytes that it took, its line's length, and the records lent from now on.
-    Said {
-        used: usize,
-        len: usize,
-        records: u64,
-    },
+    Said(usize, usize, u64),
     // The tape is stopped, with a line of this length.
-    Stop {
-        len: usize,
-    },
+    Stop { len: usize },
 }
 
 // How far a run came: the bytes that it took, the calls so far, the records lent, where the text ends, and whether the tape is stopped.
@@ -143,34 +137,21 @@ fn perform(
     match c {
         Call::Setup { count, start } => set_up(count, start, b, records, values, words, seats),
         Call::Open(owner) => plan::open(&values[..n], &words[..n], seats, owner),
-        Call::Read { owner, seat, item } => work::read(
-            &values[..n],
-            &words[..n],
-            seats,
-            owner,
-            seat,
-            item,
-        ),
+        Call::Read { owner, seat, item } => {
+            work::read(&values[..n], &words[..n], seats, owner, seat, item)
+        }
         Call::Write {
             owner,
             seat,
             item,
             value,
         } => work::write(&values[..n], &words[..n], seats, owner, seat, item, value),
-        Call::Advance { owner, seat } => commit::advance(
-            &mut values[..n],
-            &mut words[..n],
-            seats,
-            owner,
-            seat,
-        ),
-        Call::Abandon { owner, seat } => commit::abandon(
-            &values[..n],
-            &mut words[..n],
-            seats,
-            owner,
-            seat,
-        ),
+        Call::Advance { owner, seat } => {
+            commit::advance(&mut values[..n], &mut words[..n], seats, owner, seat)
+        }
+        Call::Abandon { owner, seat } => {
+            commit::abandon(&values[..n], &mut words[..n], seats, owner, seat)
+        }
     }
 }
 
@@ -220,11 +201,7 @@ fn call_turn(
     let a = perform(c, b, k.records, values, words, seats);
     let len = say(out, at, k.calls + 1, a);
     let records = records_after(c, a, k.records);
-    Turn::Said {
-        used: 2 + b.len(),
-        len,
-        records,
-    }
+    Turn::Said(2 + b.len(), len, records)
 }
 
 // Takes the turn of a body: a call, or a fault that stops the tape.
@@ -283,6 +260,28 @@ fn sum(a: usize, b: usize) -> usize
     18446744073709551615
 }
 
+fn kept(calls: u64, offset: u64, records: u64) -> Tally
+    ensures { λ r. ⌜ r ≡ record { calls = calls; offset = offset; records = records } ⌝ }
+{
+    Tally {
+        calls,
+        offset,
+        records,
+    }
+}
+
+fn so_far(used: usize, calls: u64, records: u64, end: usize, stopped: bool) -> Progress
+    ensures { λ r. ⌜ r ≡ record { used = used; calls = calls; records = records; end = end; stopped = stopped } ⌝ }
+{
+    Progress {
+        used,
+        calls,
+        records,
+        end,
+        stopped,
+    }
+}
+
 // Takes every whole call of a part of a tape, and puts the lines into out from `from` on.
 fn feed(
     part: &[u8],
@@ -302,36 +301,16 @@ fn feed(
     let mut records = k.records;
     let mut end = from;
     while used < part.len() {
-        let here = Tally {
-            calls,
-            offset: base + used as u64,
-            records,
-        };
+        let here = kept(calls, base + used as u64, records);
         let t = take_turn(&part[used..], here, values, words, seats, out, end);
         match t {
             Turn::Wait => {
-                return Progress {
-                    used,
-                    calls,
-                    records,
-                    end,
-                    stopped: false,
-                };
+                return so_far(used, calls, records, end, false);
             }
             Turn::Stop { len } => {
-                return Progress {
-                    used,
-                    calls,
-                    records,
-                    end: sum(end, len),
-                    stopped: true,
-                };
+                return so_far(used, calls, records, sum(end, len), true);
             }
-            Turn::Said {
-                used: taken,
-                len,
-                records: lent,
-            } => {
+            Turn::Said(taken, len, lent) => {
                 used += taken;
                 calls += 1;
                 records = lent;
@@ -339,13 +318,7 @@ fn feed(
             }
         }
     }
-    Progress {
-        used,
-        calls,
-        records,
-        end,
-        stopped: false,
-    }
+    so_far(used, calls, records, end, false)
 }
 
 // The last line of a tape that no call stopped: all of it was read, or a call is cut short.

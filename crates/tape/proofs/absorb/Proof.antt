@@ -2,14 +2,14 @@
 use Prim.Native.Nat.{ℕ, _-_, _≤_}
 use native.Mathlib.Omega.{arith}
 use mathlib.Core.Path.{_≡_, refl, sym, ap, _∙_}
-use mathlib.Core.Bool.{true≢false}
+use mathlib.Core.Bool.{false, true≢false}
 use mathlib.Core.List.{List}
 use denote.Ref.{now}
 use lib.ListN.{length, take}
 use lib.Seq.{length-take-le}
 use Rattle.rules.specs.Tables.{tables}
-use Rattle.tape.specs.Turns.{stateOf}
-use Rattle.tape.proofs.Room.{fit, room, took}
+use Rattle.tape.specs.Turns.{stateOf, unfit}
+use Rattle.tape.proofs.Room.{Fit, fit, room, took}
 use Rattle.tape.proofs.Moved.{shift-front}
 use borrow.Author.Needs.{needs}
 use Rattle.tape.proofs.absorb.Statement.{statement}
@@ -28,28 +28,26 @@ returns c =
       refused = λ _. (refl, refl, refl, refl);
     }
 
+-- once the front is fit to be absorbed
+good : (c : tie.Else1) → let a = c .before .before .before .before .before .before .before .args in unfit (length (now (a .buf))) (a .to) (a .k) (length (now (a .values))) (length (now (a .words))) (length (now (a .out))) ≡ false
+good c = sym (c .before .is-unfit .ensures) ∙ c .if1 .left
+
+fitting : (c : tie.Else1) → let a = c .before .before .before .before .before .before .before .args in Fit (length (now (a .buf))) (a .to) (a .k) (length (now (a .values))) (length (now (a .words))) (length (now (a .out)))
+fitting c = fit _ _ _ _ _ _ (good c)
+
+front : (c : tie.Else1) → let a = c .before .before .before .before .before .before .before .args in length (take (a .to) (now (a .buf))) ≡ a .to
+front c = let a = c .before .before .before .before .before .before .before .args in length-take-le (a .to) (now (a .buf)) (fitting c .inside)
+
 slice-reshare-prefix-feed : tie.Need-slice-reshare-prefix-feed
-slice-reshare-prefix-feed c =
-    let a = c .before .before .before .before .before .before .before .args in
-    let good = sym (c .before .is-unfit .ensures) ∙ c .if1 .left in
-    let g = fit (length (now (a .buf))) (a .to) (a .k) (length (now (a .values))) (length (now (a .words))) (length (now (a .out))) good in
-    let n : length (take (a .to) (now (a .buf))) ≡ a .to = length-take-le (a .to) (now (a .buf)) (g .inside) in
-    omega (arith, g .inside)
+slice-reshare-prefix-feed c = omega (arith, fitting c .inside)
 
 slice-aggregate-feed : tie.Need-slice-aggregate-feed
-slice-aggregate-feed c =
-    let a = c .before .before .before .before .before .before .before .before .args in
-    let good = sym (c .before .before .is-unfit .ensures) ∙ c .before .if1 .left in
-    let g = fit (length (now (a .buf))) (a .to) (a .k) (length (now (a .values))) (length (now (a .words))) (length (now (a .out))) good in
-    let n : length (take (a .to) (now (a .buf))) ≡ a .to = length-take-le (a .to) (now (a .buf)) (g .inside) in
-    sym n
+slice-aggregate-feed c = sym (front (c .before))
 
 feed-requires : tie.Need-feed-requires
 feed-requires c κs =
-    let a = c .before .before .before .before .before .before .before .before .before .before .before .before .args in
-    let good = sym (c .before .before .before .before .before .before .is-unfit .ensures) ∙ c .before .before .before .before .before .if1 .left in
-    let g = fit (length (now (a .buf))) (a .to) (a .k) (length (now (a .values))) (length (now (a .words))) (length (now (a .out))) good in
-    let n : length (take (a .to) (now (a .buf))) ≡ a .to = length-take-le (a .to) (now (a .buf)) (g .inside) in (
+    let g = fitting (c .before .before .before .before .before) in
+    let n = front (c .before .before .before .before .before) in (
       omega (arith, g .offset, g .roomy),
       omega (arith, g .calls, g .roomy),
       g .records,
@@ -59,26 +57,20 @@ feed-requires c κs =
 
 shift-requires : tie.Need-shift-requires
 shift-requires c κs =
-    let a = c .before .before .before .before .before .before .before .before .before .before .before .before .before .before .before .before .before .before .before .before .before .before .args in
-    let good = sym (c .before .before .before .before .before .before .before .before .before .before .before .before .before .before .before .before .is-unfit .ensures) ∙ c .before .before .before .before .before .before .before .before .before .before .before .before .before .before .before .if1 .left in
-    let g = fit (length (now (a .buf))) (a .to) (a .k) (length (now (a .values))) (length (now (a .words))) (length (now (a .out))) good in
-    let n : length (take (a .to) (now (a .buf))) ≡ a .to = length-take-le (a .to) (now (a .buf)) (g .inside) in
+    let g = fitting (c .before .before .before .before .before .before .before .before .before .before .before .before .before .before .before) in
+    let n = front (c .before .before .before .before .before .before .before .before .before .before .before .before .before .before .before) in
     omega (arith, c .before .before .before .before .before .before .before .before .before .feed .ensures .used, g .inside)
 
 sub-t11 : tie.Need-sub-t11
 sub-t11 c =
-    let a = c .before .before .before .before .before .before .before .before .before .before .before .before .before .before .before .before .before .before .before .before .before .before .before .before .before .args in
-    let good = sym (c .before .before .before .before .before .before .before .before .before .before .before .before .before .before .before .before .before .before .before .is-unfit .ensures) ∙ c .before .before .before .before .before .before .before .before .before .before .before .before .before .before .before .before .before .before .if1 .left in
-    let g = fit (length (now (a .buf))) (a .to) (a .k) (length (now (a .values))) (length (now (a .words))) (length (now (a .out))) good in
-    let n : length (take (a .to) (now (a .buf))) ≡ a .to = length-take-le (a .to) (now (a .buf)) (g .inside) in
+    let g = fitting (c .before .before .before .before .before .before .before .before .before .before .before .before .before .before .before .before .before .before) in
+    let n = front (c .before .before .before .before .before .before .before .before .before .before .before .before .before .before .before .before .before .before) in
     omega (arith, c .before .before .before .before .before .before .before .before .before .before .before .before .feed .ensures .used)
 
 add-t29 : tie.Need-add-t29
 add-t29 c =
-    let a = c .before .before .before .before .before .before .before .before .before .before .before .before .before .before .before .before .before .before .before .before .before .before .before .before .before .before .args in
-    let good = sym (c .before .before .before .before .before .before .before .before .before .before .before .before .before .before .before .before .before .before .before .before .is-unfit .ensures) ∙ c .before .before .before .before .before .before .before .before .before .before .before .before .before .before .before .before .before .before .before .if1 .left in
-    let g = fit (length (now (a .buf))) (a .to) (a .k) (length (now (a .values))) (length (now (a .words))) (length (now (a .out))) good in
-    let n : length (take (a .to) (now (a .buf))) ≡ a .to = length-take-le (a .to) (now (a .buf)) (g .inside) in
+    let g = fitting (c .before .before .before .before .before .before .before .before .before .before .before .before .before .before .before .before .before .before .before) in
+    let n = front (c .before .before .before .before .before .before .before .before .before .before .before .before .before .before .before .before .before .before .before) in
     omega (arith, c .before .before .before .before .before .before .before .before .before .before .before .before .before .feed .ensures .used, g .offset, g .roomy, c .before .before .before .before .before .before .before .before .before .before .before .before .before .before .before .before .before .before .before .before .before .before .before .before .before .before .good)
 
 same-length : tie.Need-same-length
@@ -99,9 +91,8 @@ same-length-5 c = search needs
 returns-2 : tie.Need-returns-2
 returns-2 c =
     let a = c .before .before .before .before .before .before .before .before .before .before .before .before .before .before .before .before .before .before .before .before .before .before .before .before .before .before .args in
-    let good = sym (c .before .before .before .before .before .before .before .before .before .before .before .before .before .before .before .before .before .before .before .before .is-unfit .ensures) ∙ c .before .before .before .before .before .before .before .before .before .before .before .before .before .before .before .before .before .before .before .if1 .left in
-    let g = fit (length (now (a .buf))) (a .to) (a .k) (length (now (a .values))) (length (now (a .words))) (length (now (a .out))) good in
-    let n : length (take (a .to) (now (a .buf))) ≡ a .to = length-take-le (a .to) (now (a .buf)) (g .inside) in
+    let g = fitting (c .before .before .before .before .before .before .before .before .before .before .before .before .before .before .before .before .before .before .before) in
+    let n = front (c .before .before .before .before .before .before .before .before .before .before .before .before .before .before .before .before .before .before .before) in
     let r = c .before .before .before .before .before .before .before .before .before .before .before .before .before .feed .result in
     let d = c .before .before .before .before .before .before .before .before .before .before .before .before .before .feed .ensures in
     let u : r .used ≤ a .to = omega (arith, d .used) in
@@ -115,7 +106,7 @@ returns-2 c =
           (ap (λ (b : List ℕ). take (a .to - r .used) b) (c .before .before .before .shift .ensures) ∙ shift-front (now (a .buf)) (r .used) (a .to) u (g .inside))
           (omega arith);
       moved = λ _. rw back (c .before .before .before .shift .ensures);
-      refused = λ e. absurd (true≢false (sym e ∙ good));
+      refused = λ e. absurd (true≢false (sym e ∙ good (c .before .before .before .before .before .before .before .before .before .before .before .before .before .before .before .before .before .before .before)));
     }
 
 pub absorb-spec : {M : Type 1} → statement M

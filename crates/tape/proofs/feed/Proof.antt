@@ -37,8 +37,11 @@ loop-holds c = (
   rw (sub-self, sub-zero, add-zero) (going-start _ _ _),
 )
 
-add-t22 : tie.Need-add-t22 Inv-loop μ-loop
-add-t22 c = search needs
+add-kept : tie.Need-add-kept Inv-loop μ-loop
+add-kept c = search needs
+
+kept-requires : tie.Need-kept-requires Inv-loop μ-loop
+kept-requires c κs = search needs
 
 sub-take-turn : tie.Need-sub-take-turn Inv-loop μ-loop
 sub-take-turn c = search needs
@@ -50,10 +53,13 @@ part-take-turn-end : tie.Need-part-take-turn-end Inv-loop μ-loop
 part-take-turn-end c = search needs
 
 take-turn-requires : tie.Need-take-turn-requires Inv-loop μ-loop
-take-turn-requires c κs = search needs
+take-turn-requires c κs = rw (c .before .before .before .before .before .kept .ensures) (omega arith, omega arith, omega arith, omega arith)
 
 enum-told : tie.Need-enum-told Inv-loop μ-loop
 enum-told c = search needs
+
+so-far-requires : tie.Need-so-far-requires Inv-loop μ-loop
+so-far-requires c κs = search needs
 
 same-length : tie.Need-same-length Inv-loop μ-loop
 same-length c = search needs
@@ -69,13 +75,14 @@ same-length-4 c = search needs
 
 returns : tie.Need-returns Inv-loop μ-loop
 returns c =
-    let a = c .before .before .before .before .before .before .before .before .before .before .before .before .before .before .before .before .before .before .before .before .before .before .before .args in
-    let L = c .before .before .before .before .before .before .before .before .before .before .before .before .before .before .before .before .before .loop in
+    let a = c .before .before .before .before .before .before .before .before .before .before .before .before .before .before .before .before .before .before .before .before .before .before .before .before .before .args in
+    let L = c .before .before .before .before .before .before .before .before .before .before .before .before .before .before .before .before .before .before .before .loop in
     let part = now (a .part) in
     let h : length (drop (L .used) part) ≤ length part - L .used = omega (arith, length-drop (L .used) part) in
-    let k = rw (take-all (length part - L .used) (drop (L .used) part) h) at (c .before .before .before .before .before .before .before .before .before .before .take-turn .ensures) in
-    ran-waits _ part _ _ _ _ (L .calls) (L .used) (L .records) (L .end) (tables (L .values) (L .words) (L .seats)) (L .out) _ _ (omega (arith, L .inv)) (omega (arith, c .before .before .before .before .before .before .before .before .before .before .before .before .before .before .before .before .before .before .before .before .before .before .before .good)) (L .inv .7) (L .inv .0) (L .inv .3) (L .inv .8)
-    (rw (c .enum-told .given .1) at k)
+    let k = rw (c .before .before .before .before .before .before .before .before .before .before .before .before .before .before .before .before .before .kept .ensures, take-all (length part - L .used) (drop (L .used) part) h) at (c .before .before .before .before .before .before .before .before .before .before .before .take-turn .ensures) in
+    rw (c .so-far .ensures)
+    (ran-waits _ part _ _ _ _ (L .calls) (L .used) (L .records) (L .end) (tables (L .values) (L .words) (L .seats)) (L .out) _ _ (omega (arith, L .inv)) (omega (arith, c .before .before .before .before .before .before .before .before .before .before .before .before .before .before .before .before .before .before .before .before .before .before .before .before .before .good)) (L .inv .7) (L .inv .0) (L .inv .3) (L .inv .8)
+    (rw (c .before .enum-told .given .1) at k))
 
 enum-known-t : tie.Need-enum-known-t Inv-loop μ-loop
 enum-known-t c = search needs
@@ -83,11 +90,14 @@ enum-known-t c = search needs
 sum-requires : tie.Need-sum-requires Inv-loop μ-loop
 sum-requires c κs = search needs
 
+so-far-requires-2 : tie.Need-so-far-requires-2 Inv-loop μ-loop
+so-far-requires-2 c κs = search needs
+
 same-length-5 : tie.Need-same-length-5 Inv-loop μ-loop
-same-length-5 c = search needs
+same-length-5 c = omega (arith, c .before .before .before .before .before .before .before .before .before .before .before .before .before .before .before .before .before .before .before .before .before .before .before .before .before .before .before .pre)
 
 same-length-6 : tie.Need-same-length-6 Inv-loop μ-loop
-same-length-6 c = search needs
+same-length-6 c = omega (arith, c .before .before .before .before .before .before .before .before .before .before .before .before .before .before .before .before .before .before .before .before .before .before .before .before .before .before .before .pre)
 
 same-length-7 : tie.Need-same-length-7 Inv-loop μ-loop
 same-length-7 c = search needs
@@ -97,13 +107,14 @@ same-length-8 c = search needs
 
 returns-2 : tie.Need-returns-2 Inv-loop μ-loop
 returns-2 c =
-    let a = c .before .before .before .before .before .before .before .before .before .before .before .before .before .before .before .before .before .before .before .before .before .before .before .before .before .args in
-    let L = c .before .before .before .before .before .before .before .before .before .before .before .before .before .before .before .before .before .before .before .loop in
+    let a = c .before .before .before .before .before .before .before .before .before .before .before .before .before .before .before .before .before .before .before .before .before .before .before .before .before .before .before .args in
+    let L = c .before .before .before .before .before .before .before .before .before .before .before .before .before .before .before .before .before .before .before .before .before .loop in
     let part = now (a .part) in
     let h : length (drop (L .used) part) ≤ length part - L .used = omega (arith, length-drop (L .used) part) in
-    let k = rw (take-all (length part - L .used) (drop (L .used) part) h) at (c .before .before .before .before .before .before .before .before .before .before .before .before .take-turn .ensures) in
-    ran-stops _ part _ _ _ _ (L .calls) (L .used) (L .records) (L .end) (tables (L .values) (L .words) (L .seats)) (L .out) _ _ (omega (arith, L .inv)) (omega (arith, c .before .before .before .before .before .before .before .before .before .before .before .before .before .before .before .before .before .before .before .before .before .before .before .before .before .good)) (L .inv .7) (L .inv .0) (L .inv .3) (L .inv .8) _ _
-    (rw (c .before .before .t .given .1) at k) (c .sum .ensures)
+    let k = rw (c .before .before .before .before .before .before .before .before .before .before .before .before .before .before .before .before .before .before .before .kept .ensures, take-all (length part - L .used) (drop (L .used) part) h) at (c .before .before .before .before .before .before .before .before .before .before .before .before .before .take-turn .ensures) in
+    rw (c .so-far2 .ensures)
+    (ran-stops _ part _ _ _ _ (L .calls) (L .used) (L .records) (L .end) (tables (L .values) (L .words) (L .seats)) (L .out) _ _ (omega (arith, L .inv)) (omega (arith, c .before .before .before .before .before .before .before .before .before .before .before .before .before .before .before .before .before .before .before .before .before .before .before .before .before .before .before .good)) (L .inv .7) (L .inv .0) (L .inv .3) (L .inv .8) _ _
+    (rw (c .before .before .before .t .given .1) at k) (c .before .sum .ensures))
 
 enum-known-t-2 : tie.Need-enum-known-t-2 Inv-loop μ-loop
 enum-known-t-2 c = search needs
@@ -114,8 +125,8 @@ SaidAt = tie.After-known-told2 Inv-loop μ-loop
 
 abbrev Next : SaidAt → Type 0
 Next c =
-    let a = c .before .before .before .before .before .before .before .before .before .before .before .before .before .before .before .before .before .before .before .before .before .before .before .before .args in
-    let L = c .before .before .before .before .before .before .before .before .before .before .before .before .before .before .before .before .before .before .loop in
+    let a = c .before .before .before .before .before .before .before .before .before .before .before .before .before .before .before .before .before .before .before .before .before .before .before .before .before .args in
+    let L = c .before .before .before .before .before .before .before .before .before .before .before .before .before .before .before .before .before .before .before .loop in
     let r = c .before .before .before .before .before .before .before .before .before .before .before .take-turn in
     let d = c .before .t2 .given in
     Stepped (fed (length (now (a .part))) (state (a .k .calls) (a .k .offset) (a .k .records) (tables (now (a .values)) (now (a .words)) (now (a .seats)))) (now (a .part))) (now (a .out)) (a .from)
@@ -125,31 +136,31 @@ Next c =
 
 step-at : (c : SaidAt) → Next c
 step-at c =
-    let a = c .before .before .before .before .before .before .before .before .before .before .before .before .before .before .before .before .before .before .before .before .before .before .before .before .args in
-    let L = c .before .before .before .before .before .before .before .before .before .before .before .before .before .before .before .before .before .before .loop in
+    let a = c .before .before .before .before .before .before .before .before .before .before .before .before .before .before .before .before .before .before .before .before .before .before .before .before .before .args in
+    let L = c .before .before .before .before .before .before .before .before .before .before .before .before .before .before .before .before .before .before .before .loop in
     let part = now (a .part) in
     let h : length (drop (L .used) part) ≤ length part - L .used = omega (arith, length-drop (L .used) part) in
-    let k = rw (take-all (length part - L .used) (drop (L .used) part) h) at (c .before .before .before .before .before .before .before .before .before .before .before .take-turn .ensures) in
-    stepped _ _ _ _ (L .calls) _ (L .records) (tables (L .values) (L .words) (L .seats)) _ (L .out) (L .end) _ _ _ _ _ (omega (arith, L .inv)) (omega (arith, c .before .before .before .before .before .before .before .before .before .before .before .before .before .before .before .before .before .before .before .before .before .before .before .before .good)) (L .inv .8)
+    let k = rw (c .before .before .before .before .before .before .before .before .before .before .before .before .before .before .before .before .before .kept .ensures, take-all (length part - L .used) (drop (L .used) part) h) at (c .before .before .before .before .before .before .before .before .before .before .before .take-turn .ensures) in
+    stepped _ _ _ _ (L .calls) _ (L .records) (tables (L .values) (L .words) (L .seats)) _ (L .out) (L .end) _ _ _ _ _ (omega (arith, L .inv)) (omega (arith, c .before .before .before .before .before .before .before .before .before .before .before .before .before .before .before .before .before .before .before .before .before .before .before .before .before .good)) (L .inv .8)
     (rw (c .before .t2 .given .1) at k)
 
 add-used : tie.Need-add-used Inv-loop μ-loop
-add-used c = omega (arith, step-at c .inside, length-drop (c .before .before .before .before .before .before .before .before .before .before .before .before .before .before .before .before .before .before .loop .used) (now (c .before .before .before .before .before .before .before .before .before .before .before .before .before .before .before .before .before .before .before .before .before .before .before .before .args .part)), c .before .before .before .before .before .before .before .before .before .before .before .before .before .before .before .before .before .before .before .before .before .before .before .before .good)
+add-used c = omega (arith, step-at c .inside, length-drop (c .before .before .before .before .before .before .before .before .before .before .before .before .before .before .before .before .before .before .before .loop .used) (now (c .before .before .before .before .before .before .before .before .before .before .before .before .before .before .before .before .before .before .before .before .before .before .before .before .before .args .part)), c .before .before .before .before .before .before .before .before .before .before .before .before .before .before .before .before .before .before .before .before .before .before .before .before .before .good)
 
 add-calls : tie.Need-add-calls Inv-loop μ-loop
-add-calls c = omega (arith, c .before .before .before .before .before .before .before .before .before .before .before .before .before .before .before .before .before .before .before .before .before .before .before .before .pre, c .before .before .before .before .before .before .before .before .before .before .before .before .before .before .before .before .before .before .loop .inv)
+add-calls c = omega (arith, c .before .before .before .before .before .before .before .before .before .before .before .before .before .before .before .before .before .before .before .before .before .before .before .before .before .pre, c .before .before .before .before .before .before .before .before .before .before .before .before .before .before .before .before .before .before .before .loop .inv)
 
 sum-requires-2 : tie.Need-sum-requires-2 Inv-loop μ-loop
 sum-requires-2 c κs = search needs
 
 loop-less : tie.Need-loop-less Inv-loop μ-loop
 loop-less c =
-    omega (arith, step-at (c .before) .inside, step-at (c .before) .least, length-drop (c .before .before .before .before .before .before .before .before .before .before .before .before .before .before .before .before .before .before .before .loop .used) (now (c .before .before .before .before .before .before .before .before .before .before .before .before .before .before .before .before .before .before .before .before .before .before .before .before .before .args .part)))
+    omega (arith, step-at (c .before) .inside, step-at (c .before) .least, length-drop (c .before .before .before .before .before .before .before .before .before .before .before .before .before .before .before .before .before .before .before .before .loop .used) (now (c .before .before .before .before .before .before .before .before .before .before .before .before .before .before .before .before .before .before .before .before .before .before .before .before .before .before .args .part)))
 
 loop-again : tie.Need-loop-again Inv-loop μ-loop
 loop-again c =
-    let a = c .before .before .before .before .before .before .before .before .before .before .before .before .before .before .before .before .before .before .before .before .before .before .before .before .before .args in
-    let L = c .before .before .before .before .before .before .before .before .before .before .before .before .before .before .before .before .before .before .before .loop in
+    let a = c .before .before .before .before .before .before .before .before .before .before .before .before .before .before .before .before .before .before .before .before .before .before .before .before .before .before .args in
+    let L = c .before .before .before .before .before .before .before .before .before .before .before .before .before .before .before .before .before .before .before .before .loop in
     let part = now (a .part) in
     let s = step-at (c .before) in
     let h = length-drop (L .used) part in
@@ -165,6 +176,9 @@ loop-again c =
       rw (c .sum2 .ensures) (rw (e, add-assoc (a .k .offset) (L .used) _, drop-drop _ (L .used) part) at (s .going)),
     )
 
+so-far-requires-3 : tie.Need-so-far-requires-3 Inv-loop μ-loop
+so-far-requires-3 c κs = search needs
+
 same-length-9 : tie.Need-same-length-9 Inv-loop μ-loop
 same-length-9 c = search needs
 
@@ -179,9 +193,10 @@ same-length-12 c = search needs
 
 returns-3 : tie.Need-returns-3 Inv-loop μ-loop
 returns-3 c =
-    let L = c .before .loop in
-    ran-all _ (now (c .before .before .before .before .before .before .before .args .part)) _ _ _ _ (L .calls) (L .used) (L .records) (L .end) (tables (L .values) (L .words) (L .seats)) (L .out) (omega (arith, c .before .before .before .before .before .before .before .good)) (L .inv .7) (L .inv .0) (L .inv .3) (omega arith)
-    (L .inv .8)
+    let L = c .before .before .loop in
+    rw (c .so-far3 .ensures)
+    (ran-all _ (now (c .before .before .before .before .before .before .before .before .args .part)) _ _ _ _ (L .calls) (L .used) (L .records) (L .end) (tables (L .values) (L .words) (L .seats)) (L .out) (omega (arith, c .before .before .before .before .before .before .before .before .good)) (L .inv .7) (L .inv .0) (L .inv .3) (omega arith)
+    (L .inv .8))
 
 pub feed-spec : {M : Type 1} → statement M
 feed-spec =
@@ -190,12 +205,14 @@ feed-spec =
     Inv-loop
     μ-loop
     loop-holds
-    add-t22
+    add-kept
+    kept-requires
     sub-take-turn
     part-take-turn-start
     part-take-turn-end
     take-turn-requires
     enum-told
+    so-far-requires
     same-length
     same-length-2
     same-length-3
@@ -203,6 +220,7 @@ feed-spec =
     returns
     enum-known-t
     sum-requires
+    so-far-requires-2
     same-length-5
     same-length-6
     same-length-7
@@ -214,6 +232,7 @@ feed-spec =
     sum-requires-2
     loop-less
     loop-again
+    so-far-requires-3
     same-length-9
     same-length-10
     same-length-11
