@@ -2,7 +2,7 @@
 use Prim.Native.Nat.{ℕ, _-_, _≤_, _<_}
 use mathlib.Core.Path.{_≡_, refl, sym, ap, _∙_}
 use mathlib.Core.Logic.{_≢_}
-use mathlib.Core.Bool.{true, false}
+use mathlib.Core.Bool.{false}
 use mathlib.Core.Option.{none, some}
 use mathlib.Core.List.{List, map, List·Memᴰ as In}
 use native.Mathlib.Omega.{arith}
@@ -29,9 +29,8 @@ pub record Shown (x : Version) (v word : ℕ) : Type 0 where
   pub is-value : x .value ≡ v
   pub is-wrote : x .wrote ≡ writeTime word
   pub is-upTo : x .upTo ≡ readTime word
-  -- a lock has a holder
+  -- what is not locked has no holder
   pub idle : isLocked word ≡ false → x .holder ≡ none
-  pub busy : isLocked word ≡ true → (k : ℕ) × (x .holder ≡ some k)
 
 abbrev pub AllShown : (ℕ → Version) → List ℕ → List ℕ → Type 0
 AllShown c values words = (item : ℕ) → item < length words → Shown (c item) (getD values item 0) (getD words item 0)

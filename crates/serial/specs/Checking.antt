@@ -117,7 +117,7 @@ module _ (opening : Values) (t : Tables) (b : Observer) (g : Good opening t b) (
           agree = agree-same (g .agree) (tables (t .values) (set (t .words) (e .told .item) w) (put (t .seats) k positionAt (p + 1))) (changed (e .told .item) y (g .σ .version)) k _ (set gr positionAt (p + 1))
               refl (length-set (t .words) (e .told .item) w)
               (shown-set (g .σ .version) (t .values) (t .words) (t .values) (e .told .item) w y (g .agree .shown) (λ j d. refl) in-words
-              (record { is-value = m .is-value; is-wrote = refl; is-upTo = kt ∙ sym (is .is-read); idle = λ q. m .idle (sym (is .is-locked) ∙ q); busy = λ q. m .busy (sym (is .is-locked) ∙ q) }))
+              (record { is-value = m .is-value; is-wrote = refl; is-upTo = kt ∙ sym (is .is-read); idle = λ q. m .idle (sym (is .is-locked) ∙ q) }))
               (becomes-put (t .seats) k positionAt (p + 1) (omega arith)) then (λ _. seen-on);
         }
 
@@ -153,7 +153,7 @@ module _ (opening : Values) (t : Tables) (b : Observer) (g : Good opening t b) (
     marked-shown : (item : ℕ) → item < length (t .words) → (d : Named item (writeEntries gr) ⊎ Absent item (writeEntries gr)) → Shown (marked stamp d (g .σ .version item)) (getD (t .values) item 0) (getD (t .words) item 0)
     marked-shown item l (inl q) =
         let z : Shown (g .σ .version item) (getD (t .values) item 0) (getD (t .words) item 0) = g .agree .shown item l in
-        record { is-value = z .is-value; is-wrote = z .is-wrote; is-upTo = z .is-upTo; idle = z .idle; busy = z .busy }
+        record { is-value = z .is-value; is-wrote = z .is-wrote; is-upTo = z .is-upTo; idle = z .idle }
     marked-shown item l (inr a) = g .agree .shown item l
 
     seal-good : Good opening (tables (t .values) (t .words) (moved (t .seats) k 4 0)) (onSealed b k (time gr))

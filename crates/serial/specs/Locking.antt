@@ -57,7 +57,7 @@ module _ (opening : Values) (t : Tables) (b : Observer) (g : Good opening t b) (
         agree = agree-same (g .agree) (tables (t .values) (set (t .words) (w .item) (withLock true word)) (moved (t .seats) k 2 (p + 1))) (changed (w .item) y (g .σ .version)) k _ (movedRow gr 2 (p + 1))
             refl (length-set (t .words) (w .item) (withLock true word))
             (shown-set (g .σ .version) (t .values) (t .words) (t .values) (w .item) (withLock true word) y (g .agree .shown) (λ j d. refl) (known p l)
-            (shown-lock (some k) true (g .σ .version (w .item)) (getD (t .values) (w .item) 0) word m (λ q. absurd (true≢false q)) (λ _. (k, refl))))
+            (shown-lock (some k) true (g .σ .version (w .item)) (getD (t .values) (w .item) 0) word m (λ q. absurd (true≢false q))))
             (becomes-moved (t .seats) k 2 (p + 1))
             ((λ i. working (readEntries gr) (sym (seg-more (writeAt gr) p) i)) ∙ sym (nudged-view n (b .seats k .key)))
             (λ _. seen-nudged n (b .seats k) (b .seats k) (g .agree .seen k (fi .used)) refl refl (λ q. absurd (omega arith)) (λ q. absurd (omega arith)));

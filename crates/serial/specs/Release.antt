@@ -2,8 +2,8 @@
 use Prim.Native.Nat.{ℕ, zero, suc, _+_, _-_, _≤_, _<_}
 use mathlib.Core.Path.{_≡_, refl, sym, _∙_}
 use mathlib.Core.Logic.{_≢_}
-use mathlib.Core.Bool.{Bool, true, false, true≢false}
-use mathlib.Core.Option.{Option, none, some}
+use mathlib.Core.Bool.{Bool, false}
+use mathlib.Core.Option.{Option, none}
 use mathlib.Core.List.{List, []}
 use native.Mathlib.Omega.{arith}
 use native.Mathlib.Numerals.{add-one}
@@ -36,15 +36,14 @@ length-released words g zero = refl
 length-released words g (suc n) = length-set (released words g n) (writeItem g n) _ ∙ length-released words g n
 
 -- the word of a version whose lock is given, or given back
-pub shown-lock : (o : Option ℕ) (l : Bool) (x : Version) (v word : ℕ) → Shown x v word → (l ≡ false → o ≡ none) → (l ≡ true → (k : ℕ) × (o ≡ some k)) → Shown (withHolder o x) v (withLock l word)
-shown-lock o l x v word z idle busy =
+pub shown-lock : (o : Option ℕ) (l : Bool) (x : Version) (v word : ℕ) → Shown x v word → (l ≡ false → o ≡ none) → Shown (withHolder o x) v (withLock l word)
+shown-lock o l x v word z idle =
     let w = withLock-is l word in
     record {
       is-value = z .is-value;
       is-wrote = z .is-wrote ∙ sym (w .is-written);
       is-upTo = z .is-upTo ∙ sym (w .is-read);
       idle = λ q. idle (sym (w .is-locked) ∙ q);
-      busy = λ q. busy (sym (w .is-locked) ∙ q);
     }
 
 -- the state after the first n of m locks are given back
@@ -74,7 +73,7 @@ module _ (opening : Values) (values words g : List ℕ) (k m : ℕ) (rs : List R
         to = reseat (reversion (p .to) (w .item) (withHolder none x)) k s;
         inv = unlocks opening (p .to) (p .inv) k rs (seg (writeAt g) (n + 1) (m - (n + 1))) w (p .left ∙ rw (seg-next (writeAt g) n m h));
         shown = shown-set (p .to .version) values words′ values (w .item) (withLock false word) (withHolder none x) (p .shown) (λ j d. refl) in-words
-            (shown-lock none false x (getD values (w .item) 0) word (p .shown (w .item) in-words) (λ _. refl) (λ q. absurd (true≢false (sym q))));
+            (shown-lock none false x (getD values (w .item) 0) word (p .shown (w .item) in-words) (λ _. refl));
         order = p .order;
         others = λ j d. changed-other k s (p .to .seat) j d ∙ p .others j d;
         left = changed-same k s (p .to .seat) ∙ rw (add-one n);

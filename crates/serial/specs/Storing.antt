@@ -1,7 +1,6 @@
 -- Advance in phase 4: a store, or done.
 use Prim.Native.Nat.{ℕ, _+_, _-_, _≤_, _<_}
 use mathlib.Core.Path.{_≡_, refl, sym, ap, _∙_}
-use mathlib.Core.Bool.{true≢false}
 use mathlib.Core.List.{List}
 use native.Mathlib.Omega.{arith}
 use borrow.Author.Tests.{ltb-true, ltb-false}
@@ -77,7 +76,6 @@ module _ (opening : Values) (t : Tables) (b : Observer) (g : Good opening t b) (
                 is-wrote = sym (is .is-written);
                 is-upTo = keyed ∙ sym (is .is-read);
                 idle = λ _. refl;
-                busy = λ q. absurd (true≢false (sym q ∙ is .is-locked));
               }))
               (becomes-put (t .seats) k positionAt (p + 1) (omega arith)) x (sym (nudged-view n (b .seats k .key)))
               (λ _. seen-nudged n (b .seats k) x seen refl refl (λ _. keyed) (λ _. omega (arith, seen .is-left four)));

@@ -49,7 +49,7 @@ setup-good t start plan e =
       agree = record {
         sized = sized-same (tables (t .values) (replicate n (fresh start)) (laid (replicate m 0) plan planWidth)) (h .sized) refl (length-replicate n (fresh start)) (length-laid (replicate m 0) plan planWidth ∙ length-replicate {A = ℕ} m 0);
         shown = λ item l. rw (getD-replicate n item (fresh start) 0 (rw (length-replicate n (fresh start)) at l))
-            (record { is-value = refl; is-wrote = sym (is .is-written); is-upTo = sym (is .is-read); idle = λ _. refl; busy = λ q. absurd (true≢false (sym q ∙ is .is-locked)) });
+            (record { is-value = refl; is-wrote = sym (is .is-written); is-upTo = sym (is .is-read); idle = λ _. refl });
         rows = λ k. rw (idle k);
         seen = λ k d. absurd (d (idle k));
         order = refl;

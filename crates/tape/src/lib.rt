@@ -1,7 +1,7 @@
 // Tapes: calls to answers to lines; one turn, a run over a part, and the whole.
 ghost use mathlib.Core.Path.{_≡_};
 ghost use Prim.Native.Nat.{_+_, _-_, _≤_, _<_, _^_};
-ghost use lib.ListN.{length, getD, take, drop};
+ghost use lib.ListN.{length, take, drop};
 ghost use lib.Seq.{paste};
 ghost use Rattle.text.specs.Text.{Appended};
 ghost use Rattle.rules.specs.Layout.{mostRecords, planWidth};
