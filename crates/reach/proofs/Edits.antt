@@ -41,6 +41,15 @@ record Alike (g h : List ℕ) : Type 0 where
   position : getD h positionAt 0 ≡ getD g positionAt 0
   time : getD h timeAt 0 ≡ getD g timeAt 0
 
+alike : {g h : List ℕ} → ((f : ℕ) → f ≤ timeAt → f ≢ readsAt → f ≢ writesAt → getD h f 0 ≡ getD g f 0) → Alike g h
+alike e =
+    record {
+      phase = e phaseAt (omega arith) (omega arith) (omega arith);
+      owner = e ownerAt (omega arith) (omega arith) (omega arith);
+      position = e positionAt (omega arith) (omega arith) (omega arith);
+      time = e timeAt (omega arith) (omega arith) (omega arith);
+    }
+
 -- an answer that is no Advance
 record Plain (a : Answer) : Type 0 where
   given-as : (y : ℕ) (k : Tally) → adds y a k .isOpen ≡ k .isOpen
@@ -227,12 +236,7 @@ module _ (t : Tables) (s y : ℕ) (k : InOrder t) (u : Used (length (t .words)) 
       let ewr = e .writes-in in
       let last : (i : ℕ) → i < reads h → i ≢ n → i < n = (λ i l d. omega arith) in
       edited _ h (Value v) (value-plain v) (value-new y g h v n refl un m3 m4 was item w) (becomes-noted (t .seats) s y v word (omega arith))
-      (record {
-        phase = z .before phaseAt (omega arith) (omega arith);
-        owner = z .before ownerAt (omega arith) (omega arith);
-        position = z .before positionAt (omega arith) (omega arith);
-        time = z .before timeAt (omega arith) (omega arith);
-      })
+      (alike (λ f a b c. z .before f (omega arith) (omega arith)))
       (record {
         reads-in = omega arith;
         writes-in = omega arith;
@@ -295,7 +299,7 @@ module _ (t : Tables) (s y : ℕ) (k : InOrder t) (u : Used (length (t .words)) 
       let rd : (j : ℕ) → j < reads g → readItem h j ≡ readItem g j = (λ j l. rest (readItemAt j) (omega arith)) in
       let w : (j : ℕ) → writeItem h j ≡ writeItem g j = (λ j. rest (writeItemAt j) (omega arith)) in
       edited _ h (Noted x) (noted-plain x) (noted-over y g h x is m3 m4 rd w) (becomes-put (t .seats) s (writeValueAt i) v (omega arith))
-      (record { phase = rest phaseAt (omega arith); owner = rest ownerAt (omega arith); position = rest positionAt (omega arith); time = rest timeAt (omega arith) })
+      (alike (λ f a b c. rest f (omega arith)))
       (record {
         reads-in = omega arith;
         writes-in = omega arith;
@@ -332,12 +336,7 @@ module _ (t : Tables) (s y : ℕ) (k : InOrder t) (u : Used (length (t .words)) 
       let over : (j : ℕ) → i ≤ j → j < n → x < writeItem g j =
       (λ j a l. let b = behind (omega arith) in ⊎-elim (λ (q : i ≡ j). rw q at b) (λ q. let r = e .ascending i j q l in omega arith) (eq-or-lt-of-le a)) in
       edited _ h (Noted x) (noted-plain x) (noted-new y g h x i m3 m4 rd put-in) (becomes-placed (t .seats) s i x v fits (omega arith))
-      (record {
-        phase = z .before phaseAt (omega arith) (omega arith);
-        owner = z .before ownerAt (omega arith) (omega arith);
-        position = z .before positionAt (omega arith) (omega arith);
-        time = z .before timeAt (omega arith) (omega arith);
-      })
+      (alike (λ f a b c. z .before f (omega arith) (omega arith)))
       (record {
         reads-in = omega arith;
         writes-in = omega arith;

@@ -10,7 +10,7 @@ use lib.Dec.{leb, ltb, eqb}
 use lib.ListN.{length, getD, set, length-set}
 use Rattle.clock.specs.Word.{top, isLocked, writeTime, readTime, withLock, fresh, extended}
 use Rattle.clock.specs.Laws.{withLock-is, fresh-is, extended-is}
-use Rattle.rules.specs.Layout.{seatCount, seatsLength, positionAt, timeAt, readItemAt, writeItemAt, row, put, phase, owner, position, reads, writes, time, readItem, keptWrite, writeItem, writeValue}
+use Rattle.rules.specs.Layout.{seatCount, seatsLength, positionAt, timeAt, readItemAt, writeItemAt, row, put, phase, position, reads, writes, time, readItem, keptWrite, writeItem, writeValue}
 use Rattle.rules.specs.Places.{length-row}
 use Rattle.rules.specs.Tables.{Tables, after}
 use Rattle.rules.specs.Answers.{locked, stored, kind}
@@ -29,7 +29,7 @@ use Rattle.reach.proofs.Count.{one, one-le}
 use Rattle.reach.proofs.Order.{Head, Used, locks, passes, lockBit}
 use Rattle.reach.proofs.Script.{script-length, Word, says-locked, says-timed, says-checked, says-sealed, says-stored, word-next}
 use Rattle.reach.proofs.Named.{named-yes, named-no, named-same, named-alike, locks-same, locks-none}
-use Rattle.reach.proofs.Rows.{nudged-at, nudged-owner, nudged-reads, nudged-writes, used-nudged, row-used, from-zero, from-four, to-early, to-late, passes-early, passes-three, passes-four, early-fits}
+use Rattle.reach.proofs.Rows.{nudged-at, nudged-owner, nudged-reads, nudged-writes, nudged-head, used-nudged, row-used, from-zero, from-four, to-early, to-late, passes-early, passes-three, passes-four, early-fits}
 use Rattle.reach.proofs.Books.{held-less}
 use Rattle.reach.proofs.Steps.{Follows, StaysTimely, tallyOf, tally-is, Told, Step, set-ind}
 use Rattle.reach.proofs.Freed.{Ends, free-step, lets-go}
@@ -139,11 +139,7 @@ module _ (t : Tables) (s y : ℕ) (size : length (t .seats) ≡ seatsLength) (sm
       let q : ℕ = position g + 1 in
       let h : List ℕ = movedRow g 2 (position g + 1) in
       let n = nudge-position (nudge-phase whole 2) q in
-      let n0 : phase h ≡ 2 = n .is-phase in
-      let n1 : owner h ≡ owner g = nudged-owner n in
-      let n2 : position h ≡ position g + 1 = n .is-position in
-      let n4 : writes h ≡ writes g = nudged-writes n in
-      let n5 : time h ≡ time g = n .is-time in
+      let m = nudged-head n in
       let hd = u .head in
       let hu = hd .used in
       let ho = hd .owner-in in
@@ -190,19 +186,15 @@ module _ (t : Tables) (s y : ℕ) (size : length (t .seats) ≡ seatsLength) (sm
   timed-ok p e tc kept late =
       let h : List ℕ = set (movedRow g 3 0) timeAt tc in
       let n = nudge-time (nudge-position (nudge-phase whole 3) 0) tc in
-      let n0 : phase h ≡ 3 = n .is-phase in
-      let n1 : owner h ≡ owner g = nudged-owner n in
-      let n2 : position h ≡ 0 = n .is-position in
-      let n4 : writes h ≡ writes g = nudged-writes n in
-      let n5 : time h ≡ tc = n .is-time in
+      let m = nudged-head n in
       let ho = u .head .owner-in in
       let hu = u .head .used in
       let pg = passes-early g p in
-      let ph = passes-three h n0 in
+      let ph = passes-three h (n .is-phase) in
       nudge-step (t .values) (t .words) (put (moved (t .seats) s 3 0) s timeAt tc) h (Timed tc) (then-put timeAt tc (omega arith) (becomes-moved (t .seats) s 3 0)) n refl refl
       (omega arith)
       (λ q. kept)
-      (calm (t .words) h n (λ x l. refl) (from-zero h (omega arith) ∙ sym (from-zero g (omega arith))) (to-late h (omega arith) ∙ n4 ∙ sym e ∙ sym (to-early g p)))
+      (calm (t .words) h n (λ x l. refl) (from-zero h (omega arith) ∙ sym (from-zero g (omega arith))) (to-late h (omega arith) ∙ nudged-writes n ∙ sym e ∙ sym (to-early g p)))
       (λ x l le. le)
       (told-more y (Timed tc) _ n (says-timed (omega arith) refl) (omega arith) (not-four h (omega arith) (omega arith)) refl)
 
@@ -223,12 +215,7 @@ module _ (t : Tables) (s y : ℕ) (size : length (t .seats) ≡ seatsLength) (sm
       let q : ℕ = position g + 1 in
       let h : List ℕ = set g positionAt (position g + 1) in
       let n = nudge-position whole q in
-      let n0 : phase h ≡ phase g = n .is-phase in
-      let n1 : owner h ≡ owner g = nudged-owner n in
-      let n2 : position h ≡ position g + 1 = n .is-position in
-      let n3 : reads h ≡ reads g = nudged-reads n in
-      let n4 : writes h ≡ writes g = nudged-writes n in
-      let n5 : time h ≡ time g = n .is-time in
+      let m = nudged-head n in
       let ho = u .head .owner-in in
       let ht = u .head .timely in
       let pg = passes-three g p in
@@ -236,7 +223,7 @@ module _ (t : Tables) (s y : ℕ) (size : length (t .seats) ≡ seatsLength) (sm
       nudge-step (t .values) words (put (t .seats) s positionAt q) h (Checked (checkItem g)) (becomes-put (t .seats) s positionAt q (omega arith)) n refl ew
       (omega arith)
       (u .not-below)
-      (calm words h n eb (from-zero h (omega arith) ∙ sym (from-zero g (omega arith))) (to-late h (omega arith) ∙ n4 ∙ sym (to-late g (omega arith))))
+      (calm words h n eb (from-zero h (omega arith) ∙ sym (from-zero g (omega arith))) (to-late h (omega arith) ∙ nudged-writes n ∙ sym (to-late g (omega arith))))
       et
       (told-more y (Checked (checkItem g)) _ n (says-checked (position g) b (omega arith) refl) (omega arith) (not-four h (omega arith) (omega arith)) refl)
 
@@ -262,23 +249,18 @@ module _ (t : Tables) (s y : ℕ) (size : length (t .seats) ≡ seatsLength) (sm
   seal-ok p b =
       let h : List ℕ = movedRow g 4 0 in
       let n = nudge-position (nudge-phase whole 4) 0 in
-      let n0 : phase h ≡ 4 = n .is-phase in
-      let n1 : owner h ≡ owner g = nudged-owner n in
-      let n2 : position h ≡ 0 = n .is-position in
-      let n3 : reads h ≡ reads g = nudged-reads n in
-      let n4 : writes h ≡ writes g = nudged-writes n in
-      let n5 : time h ≡ time g = n .is-time in
+      let m = nudged-head n in
       let ho = u .head .owner-in in
       let hc = u .head .checking p in
       let ht = u .head .timely in
       let pg = passes-three g p in
-      let ph = passes-four h n0 in
+      let ph = passes-four h (n .is-phase) in
       nudge-step (t .values) (t .words) (moved (t .seats) s 4 0) h (Sealed (time g)) (becomes-moved (t .seats) s 4 0) n refl refl
       (omega arith)
       (λ q. u .not-below (omega arith))
-      (calm (t .words) h n (λ x l. refl) (from-four h n0 ∙ n2 ∙ sym (from-zero g (omega arith))) (to-late h (omega arith) ∙ n4 ∙ sym (to-late g (omega arith))))
+      (calm (t .words) h n (λ x l. refl) (from-four h (n .is-phase) ∙ n .is-position ∙ sym (from-zero g (omega arith))) (to-late h (omega arith) ∙ nudged-writes n ∙ sym (to-late g (omega arith))))
       (λ x l le. le)
-      (told-more y (Sealed (time g)) true n (says-sealed (omega arith) refl) (omega arith) (eq-eqb (phase h) 4 n0) refl)
+      (told-more y (Sealed (time g)) true n (says-sealed (omega arith) refl) (omega arith) (eq-eqb (phase h) 4 (n .is-phase)) refl)
 
   -- PHASE 4
   store-ok : phase g ≡ 4 → position g < writes g → Step t s y (storeStep t s)
@@ -290,12 +272,7 @@ module _ (t : Tables) (s y : ℕ) (size : length (t .seats) ≡ seatsLength) (sm
       let q : ℕ = position g + 1 in
       let h : List ℕ = set g positionAt (position g + 1) in
       let n = nudge-position whole q in
-      let n0 : phase h ≡ phase g = n .is-phase in
-      let n1 : owner h ≡ owner g = nudged-owner n in
-      let n2 : position h ≡ position g + 1 = n .is-position in
-      let n3 : reads h ≡ reads g = nudged-reads n in
-      let n4 : writes h ≡ writes g = nudged-writes n in
-      let n5 : time h ≡ time g = n .is-time in
+      let m = nudged-head n in
       let ho = u .head .owner-in in
       let ht = u .head .timely in
       let pg = passes-four g p in
@@ -327,7 +304,7 @@ module _ (t : Tables) (s y : ℕ) (size : length (t .seats) ≡ seatsLength) (sm
       (λ i r. let a = r .from in let k = r .below in record { from = omega arith; below = omega arith; named = sym (ent i) ∙ r .named })) in
       omega arith))
       (λ z l le. set-ind (λ v. readTime v ≤ top) (t .words) x f z inside (λ e. rw (now .is-read) ht) (λ d. le))
-      (told-more y (Stored x) _ n (says-stored (position g) b (omega arith) refl) (omega arith) (ap (λ (k : ℕ). eqb k 4) n0) refl)
+      (told-more y (Stored x) _ n (says-stored (position g) b (omega arith) refl) (omega arith) (ap (λ (k : ℕ). eqb k 4) (n .is-phase)) refl)
 
   done-ok : phase g ≡ 4 → writes g ≤ position g → Step t s y (doneStep t s)
   unfolding doneStep

@@ -32,6 +32,10 @@ module _ {g h : List ℕ} {ph p t : ℕ} (z : Nudged g h ph p t) where
   pub nudged-writes : writes h ≡ writes g
   nudged-writes = z .rest writesAt (omega arith) (omega arith) (omega arith)
 
+  -- its head, number by number
+  pub nudged-head : (phase h ≡ ph) × (owner h ≡ owner g) × (position h ≡ p) × (reads h ≡ reads g) × (writes h ≡ writes g) × (time h ≡ t)
+  nudged-head = (z .is-phase, nudged-owner, z .is-position, nudged-reads, nudged-writes, z .is-time)
+
   pub entries-nudged : {n : ℕ} → Entries n g → Entries n h
   entries-nudged k =
       let r = nudged-reads in
