@@ -3,8 +3,6 @@ CARGO = cargo
 HARNESS = --manifest-path harness/Cargo.toml --offline --release --quiet
 FAIR = --manifest-path harness/Cargo.toml --offline --profile bench-fair --quiet
 FEATURES = --features engine,monitor
-# rt works in batches of this many: with one more than the cores, a short proof leaves no core idle.
-export RT_JOBS ?= 3
 
 .PHONY: run test parts compare host soak bench mutants size
 

@@ -21,7 +21,7 @@ use Rattle.rules.specs.declared.Verdict.{Verdict}
 use Rattle.rules.specs.declared.Verdict.the-variants.{Passes, Extends, Fails}
 use Rattle.rows.specs.Changed.{movedRow, Nudged, not-nudged, nudge-phase, nudge-position, nudge-time}
 use Rattle.rows.specs.Becomes.{Becomes, becomes-put, becomes-moved, then-put}
-use Rattle.rows.specs.CommitTime.{commit-kept}
+use Rattle.rules.specs.CommitTime.{commit-kept}
 use Rattle.reach.specs.Invariants.{lockFrom, lockTo}
 use Rattle.reach.specs.Tally.{Tally, adds}
 use Rattle.reach.proofs.Tests.{by}

@@ -6,4 +6,3 @@ pub mod FreeSeat
 pub mod Changed
 pub mod Becomes
 pub mod Begin
-pub mod CommitTime

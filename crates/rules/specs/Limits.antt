@@ -1,21 +1,24 @@
--- What the definitions come to at their limits: which refusal is given first, and what U counts.
+-- What the definitions come to at their limits: which refusal is given first, what a check does not look at, what U counts, and what a freed row holds.
 use Prim.Native.Nat.{ℕ, zero, suc, _≤_, _<_}
-use mathlib.Core.Path.{_≡_, refl, _∙_}
-use mathlib.Core.Bool.{Bool, true, false, _||_, true≢false}
+use mathlib.Core.Path.{_≡_, refl, sym, ap, _∙_}
+use mathlib.Core.Bool.{Bool, true, false, cond, _||_, true≢false}
 use mathlib.Core.List.{List}
 use native.Mathlib.Decide.{ℕ-discrete}
 use native.Mathlib.Omega.{arith}
-use borrow.Author.Tests.{le-leb, lt-leb, ltb-false}
+use borrow.Author.Tests.{le-leb, lt-leb, lt-ltb, ltb-false, eq-eqb}
+use lib.Dec.{leb}
 use lib.ListN.{length, getD}
-use Rattle.clock.specs.Word.{isLocked}
-use Rattle.rules.specs.Layout.{owners, seatCount, mostReads, rowWidth, seatsLength, row, cell, put, reads, share, limit}
+use Rattle.clock.specs.Word.{isLocked, writeTime}
+use Rattle.rules.specs.Layout.{owners, seatCount, mostReads, rowWidth, seatsLength, row, cell, put, position, reads, writes, keptWrite, share, limit}
 use Rattle.rules.specs.Places.{length-put, cell-put, cell-put-field}
 use Rattle.rules.specs.Tests.{any, sumTo, oneOf, firstOf}
 use Rattle.rules.specs.Tables.{Tables, keep}
 use Rattle.rules.specs.Refusals.{unsized}
 use Rattle.rules.specs.Plan.{badShare, badPlan, held, claim, unsound, openRefusal, cleared, freed}
-use Rattle.rules.specs.Work.{firstRead}
+use Rattle.rules.specs.Work.{writeOf, firstRead}
+use Rattle.rules.specs.Advance.{verdict, checkItem, judged}
 use Rattle.rules.specs.declared.Answer.the-variants.{Refused}
+use Rattle.rules.specs.declared.Verdict.the-variants.{Passes}
 
 -- reads full is 8, whether the record is locked or not; a locked record is 10 only where there is room
 pub reads-full : (t : Tables) (s item : ℕ) → mostReads ≤ reads (row (t .seats) s) → firstRead t s item ≡ keep t (Refused 8)
@@ -25,6 +28,28 @@ reads-full t s item h = simp (le-leb _ _ h)
 pub item-locked : (t : Tables) (s item : ℕ) → reads (row (t .seats) s) < mostReads → isLocked (getD (t .words) item 0) ≡ true → firstRead t s item ≡ keep t (Refused 10)
 unfolding firstRead
 item-locked t s item h l = simp (lt-leb _ _ h, l)
+
+-- a read entry whose kept read time covers the commit time passes, whatever its word is
+chosen : {A : Type 0} (b : Bool) (x y : A) → b ≡ true → cond b x y ≡ x
+chosen true x y e = refl
+chosen false x y e = absurd (true≢false (sym e))
+
+pub covered-passes : (wrote upTo tc word : ℕ) (own : Bool) → tc ≤ upTo → verdict wrote upTo tc word own ≡ Passes
+unfolding verdict
+covered-passes wrote upTo tc word own h = chosen _ _ _ (le-leb tc upTo h)
+
+-- so does one of a record that the seat writes too, where the word has the kept write time: its own lock is not another's
+either : {A : Type 0} (b : Bool) {x y : A} → y ≡ x → cond b x y ≡ x
+either true e = refl
+either false e = e
+
+own-passes : (wrote upTo tc word : ℕ) → writeTime word ≡ wrote → verdict wrote upTo tc word true ≡ Passes
+unfolding verdict
+own-passes wrote upTo tc word e = either (leb tc upTo) (rw (eq-eqb _ _ e))
+
+pub own-lock-passes : (words g : List ℕ) → writeTime (getD words (checkItem g) 0) ≡ keptWrite g (position g) → writeOf g (checkItem g) < writes g → judged words g ≡ Passes
+unfolding judged
+own-lock-passes words g e l = ap (verdict _ _ _ _) (lt-ltb (writeOf g (checkItem g)) (writes g) l) ∙ own-passes _ _ _ _ e
 
 -- U counts the seats that an owner holds, and its share where it holds fewer
 pub held-claim : (seats : List ℕ) (o : ℕ) → held seats o ≤ claim seats o
@@ -51,7 +76,7 @@ unfolding openRefusal firstOf
 at-limit t o a b c h = simp (a, lt-leb owners o b, c, le-leb _ _ h)
 
 -- a freed row is zero throughout
-length-cleared : (l : List ℕ) (s m : ℕ) → length (cleared l s m) ≡ length l
+pub length-cleared : (l : List ℕ) (s m : ℕ) → length (cleared l s m) ≡ length l
 unfolding cleared
 length-cleared l s zero = refl
 length-cleared l s (suc m) = length-put (cleared l s m) s m 0 ∙ length-cleared l s m

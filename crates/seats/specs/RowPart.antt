@@ -11,7 +11,7 @@ use borrow.Rule.Slice.PartMut.{putMid}
 use lib.ListN.{length, set, take, drop, replicate, drop-of-length-le, take-append-drop, length-drop}
 use lib.Seq.{length-take-le, set-out, take-all, take-nil}
 use Rattle.rules.specs.Layout.{rowWidth, rowAt, row, put}
-use Rattle.rules.specs.Places.{length-put}
+use Rattle.rules.specs.Limits.{length-cleared}
 use Rattle.rules.specs.Plan.{cleared, freed}
 
 -- a loop that has filled the first i places: one more, and the end
@@ -60,11 +60,6 @@ module _ (l : List ℕ) (s : ℕ) where
   unfolding cleared
   cleared-none = refl
 
-  length-cleared : (n : ℕ) → length (cleared l s n) ≡ length l
-  unfolding cleared
-  length-cleared zero = refl
-  length-cleared (suc n) = length-put (cleared l s n) s n 0 ∙ length-cleared n
-
   -- what would lie past the table's end makes no difference
   cleared-past : (n : ℕ) → cleared l s n ≡ cleared l s (min n (length l - rowAt s))
   unfolding cleared
@@ -73,7 +68,7 @@ module _ (l : List ℕ) (s : ℕ) where
     where
       go : cleared l s n ≡ cleared l s (min n (length l - rowAt s)) → Dec (length l ≤ rowAt s + n) → put (cleared l s n) s n 0 ≡ cleared l s (min (suc n) (length l - rowAt s))
       go h (yes y) =
-          put-past (cleared l s n) s n 0 (rw (length-cleared n) y)
+          put-past (cleared l s n) s n 0 (rw (length-cleared l s n) y)
           ∙ h
           ∙ ap (cleared l s) (let e : min n (length l - rowAt s) ≡ min (suc n) (length l - rowAt s) = omega arith in e)
       go h (no d) = ap (cleared l s) (let e : suc n ≡ min (suc n) (length l - rowAt s) = omega arith in e)

@@ -9,8 +9,8 @@ use borrow.Author.Tests.{ne-eqb}
 use Rattle.rules.specs.Tables.{Tables}
 use Rattle.rules.specs.Advance.{effect}
 use Rattle.rules.specs.Calls.{Call, Open, Read, Write, Advance, step, Event, history, told, answers}
-use Rattle.rules.specs.Quick.{quick-history}
-use Rattle.rules.specs.Cases.{blank, plan, computed, Case, tape, Plays, P8, TapeX, table, tape-x}
+use Rattle.cases.specs.Quick.{quick-history}
+use Rattle.cases.specs.Cases.{blank, plan, computed, Case, tape, Plays, P8, TapeX, table, tape-x}
 use Rattle.rules.specs.declared.Answer.{Answer}
 use Rattle.rules.specs.declared.Answer.the-variants.{Ready, Seat, Value, Noted, Locked, Timed, Checked, Sealed, Stored, Done}
 use Rattle.serial.specs.Statement.{FirstRead, Transaction, Observer, Values, nothing, changed, has, isKnown, onRead, folded, renewed, inserted, onWrite, onTimed, toStore, onSealed, onStored, onAdvance, begins, observe, observed, before, placed, allPlaced, serial, written, outcome, Right, AllStored}

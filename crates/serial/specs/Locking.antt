@@ -17,7 +17,7 @@ use Rattle.rules.specs.Calls.{Advance}
 use Rattle.rows.specs.Fine.{cond-ind, write-item, placed-low, Fine, fine-row}
 use Rattle.rows.specs.Changed.{movedRow, not-nudged, nudge-phase, nudge-position, nudge-time}
 use Rattle.rows.specs.Becomes.{then-put, becomes-moved}
-use Rattle.rows.specs.CommitTime.{commit-kept, commit-above}
+use Rattle.rules.specs.CommitTime.{commit-kept, commit-above}
 use Rattle.serial.specs.Statement.{WriteEntry, Observer, Values, changed, seeing, onTimed, onAdvance, observe}
 use Rattle.serial.specs.Protocol.{Stamp, ReadEntry, working, checking, Fits, Below}
 use Rattle.serial.specs.Versions.{withHolder}

@@ -5,17 +5,17 @@ use mathlib.Core.List.{List, [], _∷_, _++_}
 use lib.ListN.{replicate}
 use Rattle.clock.specs.Word.{reach, span, top, lockBit, isLocked, distance, writeTime, readTime, word, withLock, fresh, extended}
 use Rattle.clock.specs.Cases.{wordCases, wordDue, word-cases}
 use Rattle.rules.specs.Tests.{scan, sumTo, oneOf, firstOf}
 use Rattle.rules.specs.Layout.{seatsLength, row, put, reads}
 use Rattle.rules.specs.Tables.{Tables, tables}
 use Rattle.rules.specs.Refusals.{unsized, misnamed, misplaced, late, badRead, badWrite, damaged, foreign, refusal}
 use Rattle.rules.specs.Plan.{badShare, badPlan, setupRefusal, laid, setup, badRow, isFree, freeSeat, cleared, opened}
 use Rattle.rules.specs.Work.{readNames, writeNames, readOf, writeOf, readNoted, firstRead, readIn, read, above, placeOf, slid, placed, writeIn, write}
 use Rattle.rules.specs.Advance.{heldLocks, released, letGo, moved, lockStep, seenTime, dueTime, commitTime, timeStep, verdict, judged, stretched, passed, ruled, checkStep, sealStep, effect, storeStep, doneStep, lockPhase, checkPhase, storePhase, advanceIn, advance, abandon}
 use Rattle.rules.specs.Calls.{Call, Setup, Open, Read, Write, Advance, run, told, answers}
-use Rattle.rules.specs.Quick.{counted, quickHeld, refusalBy, quickOpen, quickStep, quickRun, quick-run, quickHistory, quick-history}
+use Rattle.cases.specs.Quick.{counted, quickHeld, refusalBy, quickOpen, quickStep, quickRun, quick-run, quickHistory, quick-history}
 use Rattle.rules.specs.declared.Answer.{Answer}
 use Rattle.rules.specs.declared.Answer.the-variants.{Ready, Seat, Value, Noted, Locked, Timed, Checked, Sealed, Stored, Done, Aborted}
 
 -- two records of value 0, nothing set up
 unfoldable pub blank : Tables
