@@ -5,8 +5,8 @@ use mathlib.Core.List.{List}
 use Rattle.rules.specs.Tables.{Outcome, after}
 use Rattle.rules.specs.declared.Answer.{Answer}
 
--- Where the statement is an equation with what the inputs fix: all of `at`, `store`, `fill`, `greater`, `head_of`, `is_unsized`, `refusal_of` and `free_row`,
--- of which some answer (r) and some leave a table (what it holds at exit), and none does both.
+-- Where the statement is an equation with what the inputs fix: all of `at`, `store`, `fill`, `greater`, `row_of`, `head_of`, `head_at`, `give`, `free_row`, `read_of`, `write_of`,
+-- `is_unsized` and `refusal_of`, of which some answer (r, or what it lends) and some leave a table (what it holds at exit), and none does both.
 pub one-result : {A : Type 0} {fixed r r′ : A} → r ≡ fixed → r′ ≡ fixed → r ≡ r′
 one-result p q = p ∙ sym q
 
