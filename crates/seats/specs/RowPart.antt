@@ -30,11 +30,12 @@ take-min w l = go (decLe w (length l))
     go (yes y) = ap (λ (k : ℕ). take k l) (let e : min w (length l) ≡ w = omega arith in e)
     go (no n) = take-all (min w (length l)) l (omega arith) ∙ sym (take-all w l (omega arith))
 
+-- a store past the first of two lists
 set-past : (xs ys : List ℕ) (n v : ℕ) → set (xs ++ ys) (length xs + n) v ≡ xs ++ set ys n v
 set-past [] ys n v = rw zero-add
 set-past (x ∷ xs) ys n v = rw suc-add (ap (λ (t : List ℕ). x ∷ t) (set-past xs ys n v))
 
--- past the table's end there is no store
+-- a store in a row: past the table's end there is none, before it one
 pub put-past : (l : List ℕ) (s f v : ℕ) → length l ≤ rowAt s + f → put l s f v ≡ l
 unfolding put
 put-past l s f v h = set-out l (rowAt s + f) v h
