@@ -1,17 +1,21 @@
--- Tables lent in part: what comes back stands before the rest. Assumes nothing.
+-- Tables lent in part: what comes back stands before the rest, and what is lent next. Assumes nothing.
 use Prim.Native.Nat.{ℕ, _<_, _≤_}
-use mathlib.Core.Path.{_≡_, ap, sym}
-use mathlib.Core.List.{List, _++_}
+use mathlib.Core.Path.{_≡_, refl, ap, sym}
+use mathlib.Core.List.{List, [], _∷_, _++_}
 use lib.ListN.{take, drop, take-append-drop}
 use borrow.Author.Tests.{lt-ltb, le-ltb}
+use denote.Enum.Declared.{tagOf}
+use types.Run.{OneOf, miss}
 use Rattle.rules.specs.Layout.{mostRecords, planWidth}
 use Rattle.rules.specs.Calls as rule
 use Rattle.rules.specs.Tables.{Tables, Outcome, after, keep}
 use Rattle.rules.specs.declared.Answer.{Answer}
 use Rattle.rules.specs.declared.Answer.the-variants.{Refused}
-use Rattle.frames.specs.declared.Call.the-variants.{Setup}
+use Rattle.frames.specs.declared.Call.{Call}
+use Rattle.frames.specs.declared.Call.the-variants.{Setup, Open, Read, Write, Advance, Abandon}
+use Rattle.frames.proofs.Call.{the-type}
 use Rattle.frames.specs.Decode.{planFrom}
-use Rattle.tape.specs.Lines.{whole, lending, performed}
+use Rattle.tape.specs.Lines.{whole, lending, performed, recordsAfter}
 
 -- a table that is only read comes back as it was
 pub unchanged : (n : ℕ) (l : List ℕ) → l ≡ take n l ++ drop n l
@@ -35,3 +39,12 @@ module _ (records count start : ℕ) (t : Tables) (b : List ℕ) where
   pub setup-lent : records ≤ 0 → count ≤ mostRecords → performed records t (Setup count start) b ≡ lending t count (rule.Setup start (take planWidth (drop planFrom b)))
   unfolding performed
   setup-lent h g = simp (le-ltb 0 records h, le-ltb mostRecords count g)
+
+-- a call that is no Setup lends what was lent before
+pub lends-as-before : (c : Call) (records : ℕ) (a : Answer) → OneOf (1 ∷ 2 ∷ 3 ∷ 4 ∷ 5 ∷ []) (tagOf the-type c) → records ≡ recordsAfter records c a
+lends-as-before (Setup n s) records a h = absurd (miss (1 ∷ 2 ∷ 3 ∷ 4 ∷ 5 ∷ []) 0 tt h)
+lends-as-before (Open o) records a h = refl
+lends-as-before (Read o s x) records a h = refl
+lends-as-before (Write o s x v) records a h = refl
+lends-as-before (Advance o s) records a h = refl
+lends-as-before (Abandon o s) records a h = refl

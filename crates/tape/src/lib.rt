@@ -159,28 +159,13 @@ fn perform(
 fn records_after(c: Call, a: Answer, records: u64) -> u64
     ensures { λ r. ⌜ r ≡ recordsAfter records c a ⌝ }
 {
-    match c {
-        Call::Setup { count, start: _ } => {
-            if answers::kind_of(a) == READY {
-                count
-            } else {
-                records
-            }
-        }
-        Call::Open(_) => records,
-        Call::Read {
-            owner: _,
-            seat: _,
-            item: _,
-        } => records,
-        Call::Write {
-            owner: _,
-            seat: _,
-            item: _,
-            value: _,
-        } => records,
-        Call::Advance { owner: _, seat: _ } => records,
-        Call::Abandon { owner: _, seat: _ } => records,
+    let Call::Setup { count, start: _ } = c else {
+        return records;
+    };
+    if answers::kind_of(a) == READY {
+        count
+    } else {
+        records
     }
 }
 
