@@ -9,75 +9,26 @@ use crate::plan::{OWNERS, Plan};
 type Lent = *const u64;
 type LentMut = *mut u64;
 
-unsafe extern "C" {
-    fn ponsevran_setup(
-        values: Lent,
-        values_len: usize,
-        words: LentMut,
-        words_len: usize,
-        seats: LentMut,
-        seats_len: usize,
-        start: u64,
-        plan: Lent,
-        number: &mut u64,
-    ) -> u64;
-    fn ponsevran_open(
-        values: Lent,
-        values_len: usize,
-        words: Lent,
-        words_len: usize,
-        seats: LentMut,
-        seats_len: usize,
-        owner: u64,
-        number: &mut u64,
-    ) -> u64;
-    fn ponsevran_read(
-        values: Lent,
-        values_len: usize,
-        words: Lent,
-        words_len: usize,
-        seats: LentMut,
-        seats_len: usize,
-        owner: u64,
-        seat: u64,
-        record: u64,
-        number: &mut u64,
-    ) -> u64;
-    fn ponsevran_write(
-        values: Lent,
-        values_len: usize,
-        words: Lent,
-        words_len: usize,
-        seats: LentMut,
-        seats_len: usize,
-        owner: u64,
-        seat: u64,
-        record: u64,
-        value: u64,
-        number: &mut u64,
-    ) -> u64;
-    fn ponsevran_advance(
-        values: LentMut,
-        values_len: usize,
-        words: LentMut,
-        words_len: usize,
-        seats: LentMut,
-        seats_len: usize,
-        owner: u64,
-        seat: u64,
-        number: &mut u64,
-    ) -> u64;
-    fn ponsevran_abandon(
-        values: Lent,
-        values_len: usize,
-        words: LentMut,
-        words_len: usize,
-        seats: LentMut,
-        seats_len: usize,
-        owner: u64,
-        seat: u64,
-        number: &mut u64,
-    ) -> u64;
+/// Declares the calls of the boundary. All take the three tables first and the answer's number
+/// last; they differ in whether values and words may change, and in the fields between.
+macro_rules! declare {
+    ($($call:ident($values:ty, $words:ty $(, $field:ident: $type:ty)*);)*) => {
+        unsafe extern "C" {
+            $(fn $call(
+                values: $values, values_len: usize, words: $words, words_len: usize,
+                seats: LentMut, seats_len: usize, $($field: $type,)* number: &mut u64,
+            ) -> u64;)*
+        }
+    };
+}
+
+declare! {
+    ponsevran_setup(Lent, LentMut, start: u64, plan: Lent);
+    ponsevran_open(Lent, Lent, owner: u64);
+    ponsevran_read(Lent, Lent, owner: u64, seat: u64, record: u64);
+    ponsevran_write(Lent, Lent, owner: u64, seat: u64, record: u64, value: u64);
+    ponsevran_advance(LentMut, LentMut, owner: u64, seat: u64);
+    ponsevran_abandon(Lent, LentMut, owner: u64, seat: u64);
 }
 
 /// Lends the three tables to a call of the boundary. Each is lent with its own length, and none

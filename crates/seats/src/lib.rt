@@ -147,14 +147,14 @@ fn find(row: &[u64], first: u64, width: u64, n: u64, item: u64) -> u64
     n
 }
 
-// The first of a row's n read entries that names the record; n where none does. A row has no more than 16.
+// The first of a row's n read entries, of which there are no more than 16, that names the record; their number where none does.
 pub fn read_of(row: &[u64], n: u64, item: u64) -> u64
     ensures { λ r. ⌜ r ≡ firstOf (readNames (now (row .entry)) item) (min n mostReads) ⌝ }
 {
     find(row, READ_ITEM, READ_WIDTH, lesser(n, MOST_READS), item)
 }
 
-// The first of a row's n write entries that names the record; n where none does. A row has no more than 8.
+// The first of a row's n write entries, of which there are no more than 8, that names the record; their number where none does.
 pub fn write_of(row: &[u64], n: u64, item: u64) -> u64
     ensures { λ r. ⌜ r ≡ firstOf (writeNames (now (row .entry)) item) (min n mostWrites) ⌝ }
 {

@@ -20,7 +20,7 @@ use Rattle.rows.specs.Fine.{cond-ind, Sized}
 use Rattle.rows.specs.Changed.{Nudged}
 use Rattle.rows.specs.Becomes.{Becomes}
 use Rattle.serial.specs.Statement.{Transaction, Seen, Observer, Values, changed, seeing, onAdvance, begins, observe, serial}
-use Rattle.serial.specs.Protocol.{Version, Seat, State, Inv, changed-same, changed-other, changed-ind}
+use Rattle.serial.specs.Protocol.{Stamp, Version, Seat, State, Inv, changed-same, changed-other, changed-ind}
 use Rattle.serial.specs.Seal.{told}
 use Rattle.serial.specs.View.{readEntries, writeEntries, view, nudged-writes, nudged-readEntries, nudged-writeEntries}
 
@@ -69,6 +69,13 @@ pub record Good (opening : Values) (t : Tables) (b : Observer) : Type 0 where
   pub σ : State
   pub inv : Inv opening σ
   pub agree : Agree t σ b
+
+-- a seat's stamp; once it has its time, its key is the time
+abbrev pub stampAt : Tables → Observer → ℕ → Stamp
+stampAt t b k = record { key = b .seats k .key; time = time (row (t .seats) k) }
+
+pub keyed-at : {opening : Values} {t : Tables} {b : Observer} → Good opening t b → (k : ℕ) → 3 ≤ phase (row (t .seats) k) → b .seats k .key ≡ time (row (t .seats) k)
+keyed-at g k l = g .agree .seen k (λ z. omega arith) .is-key l
 
 -- WHAT IS TO BE SHOWN of a call, other than a Setup that is answered ready
 abbrev pub Ok : Values → Observer → Call → Outcome → Type 0

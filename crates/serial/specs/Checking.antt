@@ -29,7 +29,7 @@ use Rattle.serial.specs.Seal.{told, transactionOf, marked, allMarked, se
 use Rattle.serial.specs.Steps.{reseat, reversion, Passes, spanned, ours, reached, passes, renews}
 use Rattle.serial.specs.Segments.{seg, length-seg, seg-more, seg-next, seg-end, seg-whole, seg-has}
 use Rattle.serial.specs.View.{readAt, writeAt, writeEntries, seatOf, view, view-checking, nudged-view}
-use Rattle.serial.specs.Agree.{Shown, SeenOk, Good, Ok, shown-set, sized-same, seen-nudged, agree-others, agree-same}
+use Rattle.serial.specs.Agree.{Shown, SeenOk, Good, stampAt, keyed-at, Ok, shown-set, sized-same, seen-nudged, agree-others, agree-same}
 use Rattle.serial.specs.Release.{abort-ok}
 
 module _ (opening : Values) (t : Tables) (b : Observer) (g : Good opening t b) (o k last : ℕ) (fi : Fine t o k 0 last) (three : phase (row (t .seats) k) ≡ 3) where
@@ -39,12 +39,11 @@ module _ (opening : Values) (t : Tables) (b : Observer) (g : Good opening t b) (
   seen : SeenOk gr (b .seats k)
   seen = g .agree .seen k (fi .used)
 
-  -- the key is the time
   keyed : b .seats k .key ≡ time gr
-  keyed = seen .is-key (omega arith)
+  keyed = keyed-at g k (omega arith)
 
   abbrev stamp : Stamp
-  stamp = record { key = b .seats k .key; time = time gr }
+  stamp = stampAt t b k
 
   is-checking : g .σ .seat k ≡ checking stamp (seg (readAt gr) 0 (position gr)) (seg (readAt gr) (position gr) (reads gr - position gr)) (writeEntries gr)
   is-checking = g .agree .rows k ∙ view-checking (b .seats k .key) gr three

@@ -23,7 +23,7 @@ use Rattle.serial.specs.Versions.{stored}
 use Rattle.serial.specs.Steps.{reseat, reversion, stores, finishes}
 use Rattle.serial.specs.Segments.{seg, seg-next, seg-end}
 use Rattle.serial.specs.View.{writeAt, seatOf, view-storing, nudged-view}
-use Rattle.serial.specs.Agree.{Shown, SeenOk, Good, Ok, shown-set, seen-nudged, agree-same, agree-seeing}
+use Rattle.serial.specs.Agree.{Shown, SeenOk, Good, stampAt, keyed-at, Ok, shown-set, seen-nudged, agree-same, agree-seeing}
 
 module _ (opening : Values) (t : Tables) (b : Observer) (g : Good opening t b) (o k last : ℕ) (fi : Fine t o k 0 last) (four : phase (row (t .seats) k) ≡ 4) where
   abbrev gr : List ℕ
@@ -33,10 +33,10 @@ module _ (opening : Values) (t : Tables) (b : Observer) (g : Good opening t b) (
   seen = g .agree .seen k (fi .used)
 
   keyed : b .seats k .key ≡ time gr
-  keyed = seen .is-key (omega arith)
+  keyed = keyed-at g k (omega arith)
 
   abbrev stamp : Stamp
-  stamp = record { key = b .seats k .key; time = time gr }
+  stamp = stampAt t b k
 
   is-storing : g .σ .seat k ≡ storing stamp (seg (writeAt gr) (position gr) (writes gr - position gr))
   is-storing = g .agree .rows k ∙ view-storing (b .seats k .key) gr four
