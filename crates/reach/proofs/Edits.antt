@@ -2,11 +2,12 @@
 use Prim.Native.Nat.{ℕ, _+_, _<_, _≤_}
 use mathlib.Core.Path.{_≡_, refl, sym, ap, _∙_}
 use mathlib.Core.Logic.{_≢_, ⊎-elim}
-use mathlib.Core.Bool.{Bool, true, false, not, _||_}
-use mathlib.Core.List.{List, []}
+use mathlib.Core.Bool.{Bool, true, false, cond, not, _||_}
+use mathlib.Core.List.{List, [], _∷_, _++_}
 use native.Mathlib.Omega.{arith}
 use native.Mathlib.Nat.{eq-or-lt-of-le}
-use borrow.Author.Tests.{eqb-true, eqb-false, eq-eqb, ltb-true, ltb-false, leb-false}
+use native.Mathlib.Numerals.{add-one}
+use borrow.Author.Tests.{eqb-true, eqb-false, ltb-true, ltb-false, leb-false}
 use lib.Dec.{leb, ltb, eqb}
 use lib.ListN.{length, getD, set, take}
 use lib.Seq.{getD-set-other}
@@ -16,19 +17,20 @@ use Rattle.rules.specs.Layout.{seatCount, mostReads, mostWrites, rowWidth, phas
 use Rattle.rules.specs.Places.{length-row}
 use Rattle.rules.specs.Tables.{Tables, after, keep}
 use Rattle.rules.specs.Answers.{ready, refused, kind}
-use Rattle.rules.specs.Work.{readNames, writeNames, readOf, writeOf, readNoted, firstRead, readIn, above, placeOf, placed, writeIn}
+use Rattle.rules.specs.Work.{readOf, writeOf, readNoted, firstRead, readIn, above, placeOf, placed, writeIn}
 use Rattle.rules.specs.declared.Answer.{Answer}
 use Rattle.rules.specs.declared.Answer.the-variants.{Value, Noted, Refused}
 use Rattle.rows.specs.Search.{first-le, first-hit}
 use Rattle.rows.specs.Changed as C
 use Rattle.rows.specs.Changed.{notedRow, noted-row, placedRow, placed-row}
 use Rattle.rows.specs.Becomes.{Becomes, becomes-put, becomes-noted, becomes-placed}
-use Rattle.reach.specs.Tally.{Tally, adds}
+use Rattle.reach.specs.Tally.{Tally, knows, adds}
 use Rattle.reach.specs.Life.{script}
 use Rattle.reach.proofs.Tests.{by, same-test, or-true, or-false, before-first}
 use Rattle.reach.proofs.Count.{one}
-use Rattle.reach.proofs.Order.{Entries, Used, locks, written, hasRead, InOrder}
-use Rattle.reach.proofs.Named.{named-yes, named-has, named-no, named-alike, locks-none}
+use Rattle.reach.proofs.Order.{Entries, Used, locks, written, listed, readList, InOrder}
+use Rattle.reach.proofs.Listed.{listed-same, no-write-of, no-read-of, written-is, read-is}
+use Rattle.reach.proofs.Named.{named-yes, named-has, named-alike, locks-none}
 use Rattle.reach.proofs.Rows.{row-used, to-early, passes-early}
 use Rattle.reach.proofs.Books.{held-less}
 use Rattle.reach.proofs.Inserted.{Put, Origin, old, new, up, origin, put-all, put-ascending}
@@ -56,64 +58,59 @@ record Plain (a : Answer) : Type 0 where
   holds : (y : ℕ) (k : Tally) → adds y a k .holder ≡ k .holder
   same : (y : ℕ) (k : Tally) → adds y a k .words ≡ k .words
   seal : (y : ℕ) (k : Tally) → adds y a k .isSealed ≡ k .isSealed
+  keeps : (y : ℕ) (k : Tally) (x : ℕ) → adds y a k .locked x ≡ k .locked x
   plain : kind a ≢ ready
   given : kind a ≢ refused
 
 value-plain : (n : ℕ) → Plain (Value n)
 unfolding adds
-value-plain n = record { given-as = λ y k. refl; holds = λ y k. refl; same = λ y k. refl; seal = λ y k. refl; plain = λ e. omega arith; given = λ e. omega arith }
+value-plain n =
+    record {
+      given-as = λ y k. refl;
+      holds = λ y k. refl;
+      same = λ y k. refl;
+      seal = λ y k. refl;
+      keeps = λ y k x. refl;
+      plain = λ e. omega arith;
+      given = λ e. omega arith;
+    }
 
 noted-plain : (n : ℕ) → Plain (Noted n)
 unfolding adds
-noted-plain n = record { given-as = λ y k. refl; holds = λ y k. refl; same = λ y k. refl; seal = λ y k. refl; plain = λ e. omega arith; given = λ e. omega arith }
+noted-plain n =
+    record {
+      given-as = λ y k. refl;
+      holds = λ y k. refl;
+      same = λ y k. refl;
+      seal = λ y k. refl;
+      keeps = λ y k x. refl;
+      plain = λ e. omega arith;
+      given = λ e. omega arith;
+    }
 
 -- WHAT THE ANSWERS TELL of the records written and read
 record Entered (y : ℕ) (g h : List ℕ) (a : Answer) : Type 0 where
   wrote : (x : ℕ) → written h x ≡ adds y a (tallyOf g) .wrote x
-  read : (x : ℕ) → hasRead h x ≡ adds y a (tallyOf g) .read x
+  read : readList h ≡ adds y a (tallyOf g) .read
 
 -- the value of a record that has an entry
-value-known : (y : ℕ) (g : List ℕ) (v : ℕ) → written g y || hasRead g y ≡ true → Entered y g g (Value v)
+value-known : (y : ℕ) (g : List ℕ) (v : ℕ) → knows (tallyOf g) y ≡ true → Entered y g g (Value v)
 unfolding adds
-value-known y g v h =
-    record {
-      wrote = λ x. refl;
-      read = λ x.
-          by (eqb y x)
-          (λ z. rw z (known (written g x) (hasRead g x) (ap (λ (q : ℕ). written g q || hasRead g q) (sym (eqb-true y x z)) ∙ h)))
-          (λ z. rw z (sym (or-false (hasRead g x))));
-    }
-  where
-    known : (w r : Bool) → w || r ≡ true → r ≡ (r || not w)
-    known true true h = refl
-    known true false h = refl
-    known false true h = refl
-    known false false h = h
+value-known y g v h = record { wrote = λ x. refl; read = sym (ap (λ (b : Bool). cond b (readList g) (readList g ++ (y ∷ []))) h) }
 
 -- the value of a record that has none, with a new read entry for it
-value-new : (y : ℕ) (g h : List ℕ) (v n : ℕ) → n ≡ reads g → written g y ≡ false → reads h ≡ n + 1 → writes h ≡ writes g →
-    ((i : ℕ) → i < n → readItem h i ≡ readItem g i) → readItem h n ≡ y → ((i : ℕ) → writeItem h i ≡ writeItem g i) → Entered y g h (Value v)
-unfolding adds
-value-new y g h v n e un m w was item same =
+value-new : (y : ℕ) (g h : List ℕ) (v : ℕ) → knows (tallyOf g) y ≡ false → reads h ≡ reads g + 1 → writes h ≡ writes g →
+    ((i : ℕ) → i < reads g → readItem h i ≡ readItem g i) → readItem h (reads g) ≡ y → ((i : ℕ) → writeItem h i ≡ writeItem g i) → Entered y g h (Value v)
+unfolding adds listed
+value-new y g h v un m w was item same =
     record {
       wrote = λ x. named-alike (writeItem g) (writeItem h) 0 (writes g) 0 (writes h) refl w (λ i l. same i) x;
-      read = λ x. more x ∙ by (eqb y x) (λ z. rw (z, ap (written g) (sym (eqb-true y x z)) ∙ un) refl) (λ z. rw z refl);
+      read = ap (listed (readItem h)) (m ∙ add-one (reads g)) ∙ rw (un, listed-same (readItem g) (readItem h) (reads g) was, item) refl;
     }
-  where
-    more : (x : ℕ) → hasRead h x ≡ (hasRead g x || eqb y x)
-    more x =
-        same-test _ _
-        (λ t. let q = named-has (readItem h) 0 (reads h) x t in
-        let b = q .1 .below in
-        by (eqb (q .0) n)
-        (λ z. rw (eq-eqb y x (sym item ∙ ap (λ (i : ℕ). readItem h i) (sym (eqb-true (q .0) n z)) ∙ q .1 .named)) (or-true (hasRead g x)))
-        (λ z. let ne : q .0 ≢ n = eqb-false (q .0) n z in
-        rw (named-yes (readItem g) 0 (reads g) x (q .0) (record { from = omega arith; below = omega arith; named = sym (was (q .0) (omega arith)) ∙ q .1 .named })) refl))
-        (λ t. by (hasRead g x)
-        (λ z. let q = named-has (readItem g) 0 (reads g) x z in
-        let b = q .1 .below in
-        named-yes (readItem h) 0 (reads h) x (q .0) (record { from = omega arith; below = omega arith; named = was (q .0) (omega arith) ∙ q .1 .named }))
-        (λ z. named-yes (readItem h) 0 (reads h) x n (record { from = omega arith; below = omega arith; named = item ∙ eqb-true y x (rw z at t) })))
+
+-- the same read entries
+reads-same : (g h : List ℕ) → reads h ≡ reads g → ((i : ℕ) → i < reads g → readItem h i ≡ readItem g i) → readList h ≡ readList g
+reads-same g h e r = ap (listed (readItem h)) e ∙ listed-same (readItem g) (readItem h) (reads g) r
 
 -- a write of a record that has a write entry
 noted-over : (y : ℕ) (g h : List ℕ) (x : ℕ) → written g x ≡ true → reads h ≡ reads g → writes h ≡ writes g →
@@ -123,7 +120,7 @@ noted-over y g h x is er ew r w =
     record {
       wrote = λ z. named-alike (writeItem g) (writeItem h) 0 (writes g) 0 (writes h) refl ew (λ i l. w i) z ∙
           by (eqb x z) (λ q. rw (q, ap (written g) (sym (eqb-true x z q)) ∙ is) refl) (λ q. rw q (sym (or-false (written g z))));
-      read = λ z. named-alike (readItem g) (readItem h) 0 (reads g) 0 (reads h) refl er r z;
+      read = reads-same g h er r;
     }
 
 -- a write of a record that has none, put in at place i
@@ -138,7 +135,7 @@ noted-new y g h x i er ew r p =
           (λ q. rw q (same-test _ _
           (λ t. let k = named-has (writeItem h) 0 (writes h) z t in let b = k .1 .below in from (eqb-false x z q) (k .1 .named) (origin p (k .0) (omega arith)))
           (λ t. let k = named-has (writeItem g) 0 (writes g) z (sym (or-false (written g z)) ∙ t) in let b = k .1 .below in to (k .0) (omega arith) (k .1 .named))));
-      read = λ z. named-alike (readItem g) (readItem h) 0 (reads g) 0 (reads h) refl er r z;
+      read = reads-same g h er r;
     }
   where
     had : (z k : ℕ) → k < writes g → writeItem g k ≡ z → (written g z || false) ≡ true
@@ -163,8 +160,8 @@ module _ (t : Tables) (s y : ℕ) (k : InOrder t) (u : Used (length (t .words)) 
   size = length-row (t .seats) s (k .sized .rows) small
 
   told-plain : (h : List ℕ) (a : Answer) → Plain a → Entered y g h a → phase h ≡ phase g → owner h ≡ owner g → tallyOf h .words ≡ tallyOf g .words →
-      Told y g h a
-  told-plain h a p en e o v =
+      ((x : ℕ) → locks h x ≡ locks g x) → Told y g h a
+  told-plain h a p en e o v lk =
       record {
         tallied =
             tally-is h (adds y a (tallyOf g))
@@ -172,14 +169,14 @@ module _ (t : Tables) (s y : ℕ) (k : InOrder t) (u : Used (length (t .words)) 
             (o ∙ sym (p .holds y (tallyOf g)))
             (v ∙ sym (p .same y (tallyOf g)))
             (ap (λ (z : ℕ). eqb z 4) e ∙ sym (p .seal y (tallyOf g)))
-            (en .wrote) (en .read);
+            (en .wrote) (en .read) (λ x. lk x ∙ sym (p .keeps y (tallyOf g) x));
         fair = λ z. absurd (p .given z);
         plain = p .plain;
       }
 
   -- the tables stay: a value told again, a refusal
-  told-again : (v : ℕ) → written g y || hasRead g y ≡ true → Step t s y (keep t (Value v))
-  told-again v h = step-keep t s y (Value v) (row-used u) (told-plain g (Value v) (value-plain v) (value-known y g v h) refl refl refl)
+  told-again : (v : ℕ) → knows (tallyOf g) y ≡ true → Step t s y (keep t (Value v))
+  told-again v h = step-keep t s y (Value v) (row-used u) (told-plain g (Value v) (value-plain v) (value-known y g v h) refl refl refl (λ x. refl))
 
   refuses : (n : ℕ) → n ≢ 3 → Step t s y (keep t (Refused n))
   unfolding adds
@@ -203,6 +200,7 @@ module _ (t : Tables) (s y : ℕ) (k : InOrder t) (u : Used (length (t .words)) 
       let ht = hd .timely in
       let none : (r : List ℕ) (x : ℕ) → phase r ≡ 1 → position r ≡ 0 → locks r x ≡ false =
       (λ r x a b. locks-none r x (let q = to-early r (omega arith) in omega arith)) in
+      let same : (x : ℕ) → locks h x ≡ locks g x = (λ x. none h x (omega arith) (omega arith) ∙ sym (none g x work pos)) in
       record {
         next = h;
         change = record {
@@ -210,17 +208,16 @@ module _ (t : Tables) (s y : ℕ) (k : InOrder t) (u : Used (length (t .words)) 
           values = refl;
           words = refl;
           in-order = row-used (record { head = omega arith; entries = q; not-below = λ z. absurd (omega arith) });
-          locked = λ x l le. let a0 : one (locks h x) ≡ 0 = ap one (none h x (omega arith) (omega arith)) in
-              let a1 : one (locks g x) ≡ 0 = ap one (none g x work pos) in omega arith;
+          locked = λ x l le. let b : one (locks h x) ≡ one (locks g x) = ap one (same x) in omega arith;
           timely = λ x l le. le;
         };
         mine = held-less g h (omega arith) e1;
-        told = told-plain h a p en e0 e1 (none-told h (omega arith) (omega arith) ∙ sym (none-told g work pos));
+        told = told-plain h a p en e0 e1 (none-told h (omega arith) (omega arith) ∙ sym (none-told g work pos)) same;
       }
 
   -- READ: a new read entry
   note-ok : (v word : ℕ) → y < length (t .words) → word ≡ getD (t .words) y 0 → reads g < mostReads → ((i : ℕ) → i < reads g → readItem g i ≢ y) →
-      written g y ≡ false → Step t s y (after (Value v) (t .values) (t .words) (readNoted (t .seats) s y v word))
+      knows (tallyOf g) y ≡ false → Step t s y (after (Value v) (t .values) (t .words) (readNoted (t .seats) s y v word))
   note-ok v word inside ew room unread un =
       let n : ℕ = reads g in
       let h : List ℕ = notedRow g y v (writeTime word) (readTime word) in
@@ -235,7 +232,7 @@ module _ (t : Tables) (s y : ℕ) (k : InOrder t) (u : Used (length (t .words)) 
       let e = u .entries in
       let ewr = e .writes-in in
       let last : (i : ℕ) → i < reads h → i ≢ n → i < n = (λ i l d. omega arith) in
-      edited _ h (Value v) (value-plain v) (value-new y g h v n refl un m3 m4 was item w) (becomes-noted (t .seats) s y v word (omega arith))
+      edited _ h (Value v) (value-plain v) (value-new y g h v un m3 m4 was item w) (becomes-noted (t .seats) s y v word (omega arith))
       (alike (λ f a b c. z .before f (omega arith) (omega arith)))
       (record {
         reads-in = omega arith;
@@ -256,34 +253,16 @@ module _ (t : Tables) (s y : ℕ) (k : InOrder t) (u : Used (length (t .words)) 
         no-write = λ f a l. z .behind f (omega arith) ∙ e .no-write f (omega arith) l;
       })
 
-  -- no entry names the record where the search finds none
-  no-write-of : (x i : ℕ) → writes g ≤ writeOf g x → i < writes g → writeItem g i ≢ x
-  unfolding writeOf writeNames
-  no-write-of x i h l = eqb-false _ _ (before-first (writeNames g x) (writes g) i (omega arith))
-
-  no-read-of : (x i : ℕ) → reads g ≤ readOf g x → i < reads g → readItem g i ≢ x
-  unfolding readOf readNames
-  no-read-of x i h l = eqb-false _ _ (before-first (readNames g x) (reads g) i (omega arith))
-
-  -- and the entry that it finds names it
-  write-of : (x : ℕ) → writeOf g x < writes g → written g x ≡ true
-  unfolding writeOf writeNames
-  write-of x h = named-yes (writeItem g) 0 (writes g) x (writeOf g x) (record { from = omega arith; below = h; named = eqb-true _ _ (first-hit (writeNames g x) (writes g) h) })
-
-  read-of : (x : ℕ) → readOf g x < reads g → hasRead g x ≡ true
-  unfolding readOf readNames
-  read-of x h = named-yes (readItem g) 0 (reads g) x (readOf g x) (record { from = omega arith; below = h; named = eqb-true _ _ (first-hit (readNames g x) (reads g) h) })
-
   pub read-ok : y < length (t .words) → Step t s y (readIn t s y)
   unfolding readIn firstRead
   read-ok inside =
-      by (ltb (writeOf g y) (writes g)) (λ e. rw e (told-again _ (rw (write-of y (ltb-true _ _ e)) refl)))
-      (λ e0. rw e0 (by (ltb (readOf g y) (reads g)) (λ e. rw e (told-again _ (rw (read-of y (ltb-true _ _ e)) (or-true (written g y)))))
+      by (ltb (writeOf g y) (writes g)) (λ e. rw e (told-again _ (rw (sym (written-is g y) ∙ e) refl)))
+      (λ e0. rw e0 (by (ltb (readOf g y) (reads g)) (λ e. rw e (told-again _ (rw (sym (read-is g y) ∙ e) (or-true (written g y)))))
       (λ e1. rw e1 (by (leb mostReads (reads g)) (λ e. rw e (refuses 8 (omega arith)))
       (λ e2. rw e2 (by (isLocked (getD (t .words) y 0)) (λ e. rw e (refuses 10 (omega arith)))
       (λ e3. rw e3 (note-ok (getD (t .values) y 0) (getD (t .words) y 0) inside refl (leb-false mostReads (reads g) e2)
-      (λ i l. no-read-of y i (ltb-false _ _ e1) l)
-      (named-no (writeItem g) 0 (writes g) y (λ i q. no-write-of y i (ltb-false _ _ e0) (q .below) (q .named)))))))))))
+      (λ i l. no-read-of g y i (ltb-false _ _ e1) l)
+      (rw (sym (written-is g y) ∙ e0) (sym (read-is g y) ∙ e1))))))))))
 
   -- WRITE: a pending value replaced
   over-ok : (i x v : ℕ) → i < writes g → written g x ≡ true →
@@ -359,7 +338,7 @@ module _ (t : Tables) (s y : ℕ) (k : InOrder t) (u : Used (length (t .words)) 
   unfolding placeOf above
   place-before x e j l =
       let a = place-in x in
-      let d : writeItem g j ≢ x = no-write-of x j e (omega arith) in
+      let d : writeItem g j ≢ x = no-write-of g x j e (omega arith) in
       let b : writeItem g j ≤ x = ltb-false x (writeItem g j) (before-first (above g x) (writes g) j l) in
       omega arith
 
@@ -370,6 +349,6 @@ module _ (t : Tables) (s y : ℕ) (k : InOrder t) (u : Used (length (t .words)) 
   pub write-ok : (x v : ℕ) → x < length (t .words) → Step t s y (writeIn t s x v)
   unfolding writeIn
   write-ok x v inside =
-      by (ltb (writeOf g x) (writes g)) (λ e. rw e (over-ok (writeOf g x) x v (ltb-true _ _ e) (write-of x (ltb-true _ _ e))))
+      by (ltb (writeOf g x) (writes g)) (λ e. rw e (over-ok (writeOf g x) x v (ltb-true _ _ e) (sym (written-is g x) ∙ e)))
       (λ e. rw e (by (leb mostWrites (writes g)) (λ q. rw q (refuses 9 (omega arith)))
       (λ q. rw q (place-ok (placeOf g x) x v (place-in x) (leb-false mostWrites (writes g) q) inside (place-before x (ltb-false _ _ e)) (place-behind x)))))

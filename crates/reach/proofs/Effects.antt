@@ -1,14 +1,14 @@
 -- What any call does to tables that are in order: it is refused, or it changes one row, or it begins anew.
 use Prim.Native.Nat.{ℕ, _<_}
-use mathlib.Core.Path.{_≡_, refl, sym, subst}
+use mathlib.Core.Path.{_≡_, refl, sym, ap, subst}
 use mathlib.Core.Logic.{_≢_}
 use mathlib.Core.Bool.{Bool, true, false, cond}
 use mathlib.Core.List.{List, [], _∷_}
 use native.Mathlib.Omega.{arith}
 use borrow.Author.Tests.{eqb-true, leb-false}
 use lib.Dec.{ltb, eqb}
-use lib.ListN.{length, getD}
-use Rattle.clock.specs.Word.{top}
+use lib.ListN.{length, getD, length-replicate}
+use Rattle.clock.specs.Word.{top, fresh}
 use Rattle.rules.specs.Tests.{firstOf}
 use Rattle.rules.specs.Layout.{seatCount, planWidth, row, phase}
 use Rattle.rules.specs.Tables.{Tables, Outcome, keep, unless}
@@ -36,15 +36,16 @@ pub data Effect (t : Tables) (c : Call) (o : Outcome) : Type 0 where
   refuses : (n : ℕ) → n ≢ 3 → o ≡ keep t (Refused n) → Effect t c o
   changes : (s : ℕ) → s < seatCount → ((j : ℕ) → about j c (o .answer) ≡ eqb s j) → (h : List ℕ) → Change t (o .tables) s h →
       Books (o .tables .seats) → Told (names c) (row (t .seats) s) h (o .answer) → Effect t c o
-  begins : (n start : ℕ) (plan : List ℕ) → c ≡ Setup start plan → o .answer ≡ Ready n → ((j : ℕ) → about j c (o .answer) ≡ true) →
-      InOrder (o .tables) → ((s : ℕ) → Zero (row (o .tables .seats) s)) → ((i : ℕ) → i < planWidth → getD (o .tables .seats) i 0 ≡ getD plan i 0) →
+  begins : (start : ℕ) (plan : List ℕ) → c ≡ Setup start plan → o .answer ≡ Ready (length (t .words)) →
+      length (o .tables .words) ≡ length (t .words) → ((j : ℕ) → about j c (o .answer) ≡ true) → InOrder (o .tables) →
+      ((s : ℕ) → Zero (row (o .tables .seats) s)) → ((i : ℕ) → i < planWidth → getD (o .tables .seats) i 0 ≡ getD plan i 0) →
       Effect t c o
 
 either : (t : Tables) (c : Call) (why : ℕ) (o : Outcome) → why ≢ 3 → (why ≡ 0 → Effect t c o) → Effect t c (unless why t o)
 either t c why o d f = cond-ind (Effect t c) (eqb why 0) (λ e. f (eqb-true why 0 e)) (λ e. refuses why d refl)
 
 -- A CALL THAT NAMES A SEAT
-seat-in : (n o s x : ℕ) → misnamed n o s x ≡ false → s < seatCount
+pub seat-in : (n o s x : ℕ) → misnamed n o s x ≡ false → s < seatCount
 unfolding misnamed
 seat-in n o s x e = leb-false seatCount s (none-of _ e .1 .0)
 
@@ -76,7 +77,8 @@ setup-effect t start plan =
     either t (Setup start plan) (setupRefusal t start plan) _
     (unfold setupRefusal in never-three (unsized (length (t .values)) (length (t .words)) (length (t .seats))) (ltb top start) (badPlan plan))
     (λ e. let b = begun t start plan e in
-    begins (length (t .words)) start plan refl refl (λ j. refl) (B.begins t start plan b) (B.zeros t start plan b) (B.plan-laid t start plan b))
+    begins start plan refl refl (length-replicate (length (t .words)) (fresh start)) (λ j. refl)
+    (B.begins t start plan b) (B.zeros t start plan b) (B.plan-laid t start plan b))
 
 -- ANY CALL
 pub effect : (t : Tables) → InOrder t → (c : Call) → Effect t c (step t c)
@@ -114,7 +116,13 @@ effect t k (Abandon o s) =
 pub after-effect : (t : Tables) (c : Call) (o : Outcome) → InOrder t → Effect t c o → InOrder (o .tables)
 after-effect t c o k (refuses n d e) = subst (λ (q : Outcome). InOrder (q .tables)) (sym e) k
 after-effect t c o k (changes s low a h ch b told) = state-after t (o .tables) s h low ch b k
-after-effect t c o k (begins n start plan q e a b z p) = b
+after-effect t c o k (begins start plan q e m a b z p) = b
+
+-- and there are as many records as before
+pub as-many : (t : Tables) (c : Call) (o : Outcome) → Effect t c o → length (o .tables .words) ≡ length (t .words)
+as-many t c o (refuses n d e) = ap (λ (z : Outcome). length (z .tables .words)) e
+as-many t c o (changes s low a h ch b told) = ch .words
+as-many t c o (begins start plan q e m a b z p) = m
 
 pub in-order-run : (t : Tables) → InOrder t → (cs : List Call) → InOrder (run t cs)
 unfolding run

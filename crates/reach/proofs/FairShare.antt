@@ -166,7 +166,7 @@ plan-effect : (t : Tables) (c : Call) (o : Outcome) (plan : List ℕ) → Effect
 plan-effect t c o plan (refuses n d e) h i l =
     rw (ap (λ (z : Outcome). z .tables) e, ap (λ (z : Outcome). z .answer) e, takes-not c (Refused n) plan (λ q. omega arith)) (h i l)
 plan-effect t c o plan (changes s low a g ch b told) h i l = rw (takes-not c (o .answer) plan (told .plain)) (ch .becomes .plan i l ∙ h i l)
-plan-effect t c o plan (begins n start new q e a b z p) h i l = rw (q, e) (unfold takes in p i l)
+plan-effect t c o plan (begins start new q e m a b z p) h i l = rw (q, e) (unfold takes in p i l)
 
 plan-run : (t : Tables) (plan : List ℕ) → InOrder t → (cs : List Call) → ((i : ℕ) → i < planWidth → getD (t .seats) i 0 ≡ getD plan i 0) → (i : ℕ) →
     i < planWidth → getD (run t cs .seats) i 0 ≡ getD (planAfter (history t cs) plan) i 0
@@ -181,7 +181,7 @@ plan-kept t z i l =
     ∙ plan-run _ (z .plan) (begun-in-order (z .opening) (z .start) (z .plan) (z .answered)) (z .calls) (begun-plan (z .opening) (z .start) (z .plan) (z .answered)) i l
 
 -- held seats can be told from calls and answers
-held-seen : (t : Tables) (z : Reached t) (o : ℕ) → holding t o ≡ seatsOf o (seen z)
+pub held-seen : (t : Tables) (z : Reached t) (o : ℕ) → holding t o ≡ seatsOf o (seen z)
 unfolding held holds
 held-seen t z o =
     let mine : Tally → Bool = λ k. k .isOpen && eqb (k .holder) o in

@@ -25,7 +25,7 @@ use Rattle.reach.specs.Tally.{Tally, nothing, adds}
 use Rattle.reach.specs.Life.{script}
 use Rattle.reach.proofs.Tests.{by}
 use Rattle.reach.proofs.Count.{one, one-le}
-use Rattle.reach.proofs.Order.{Zero, Used, locks, lockBit}
+use Rattle.reach.proofs.Order.{Zero, Used, locks, listed, lockBit}
 use Rattle.reach.proofs.Named.{named-has, named-none, named-empty, locks-none}
 use Rattle.reach.proofs.Rows.{row-zero, from-zero, to-early, to-held, passes-early}
 use Rattle.reach.proofs.Books.{held-free}
@@ -80,7 +80,15 @@ module _ (g : List ℕ) (z : Zero g) where
   free-phase : phase g ≡ 0
   free-phase = z phaseAt (omega arith)
 
+  pub locks-free : (item : ℕ) → locks g item ≡ false
+  locks-free item =
+      let a = free-phase in
+      let b = z positionAt (omega arith) in
+      let e = to-early g (omega arith) in
+      locks-none g item (omega arith)
+
   pub tally-free : tallyOf g ≡ nothing
+  unfolding listed
   tally-free =
       let a = free-phase in
       let r = z readsAt (omega arith) in
@@ -91,14 +99,8 @@ module _ (g : List ℕ) (z : Zero g) where
       (ap (λ (n : ℕ). take n (script (writes g) (reads g))) (passes-early g (omega arith) ∙ z positionAt (omega arith)))
       (ne-eqb (phase g) 4 (omega arith))
       (λ x. named-empty (writeItem g) 0 (writes g) x (omega arith))
-      (λ x. named-empty (readItem g) 0 (reads g) x (omega arith))
-
-  pub locks-free : (item : ℕ) → locks g item ≡ false
-  locks-free item =
-      let a = free-phase in
-      let b = z positionAt (omega arith) in
-      let e = to-early g (omega arith) in
-      locks-none g item (omega arith)
+      (ap (listed (readItem g)) r)
+      locks-free
 
 module _ (t : Tables) (s y : ℕ) (size : length (t .seats) ≡ seatsLength) (small : s < seatCount) (u : Used (length (t .words)) (row (t .seats) s)) where
   -- freed, with words that are unlocked where the row held them, and else as they were

@@ -1,8 +1,9 @@
 -- What the tables hold at all times from Setup on: one theorem for each fact of specs/Invariants.
 use Prim.Native.Nat.{ℕ, _<_, _≤_}
-use mathlib.Core.Path.{_≡_, ap}
+use mathlib.Core.Path.{_≡_, sym, ap, _∙_}
 use mathlib.Core.Logic.{_≢_}
 use mathlib.Core.Bool.{Bool, true}
+use mathlib.Core.List.{List}
 use native.Mathlib.Omega.{arith}
 use native.Mathlib.Decide.{decLt}
 use borrow.Author.Tests.{eqb-true, eqb-false}
@@ -11,16 +12,21 @@ use lib.ListN.{length, getD}
 use Rattle.clock.specs.Word.{isLocked}
 use Rattle.clock.specs.Laws.{writeTime-small}
 use Rattle.rules.specs.Tests.{count}
-use Rattle.rules.specs.Layout.{seatCount, row, writeItem}
+use Rattle.rules.specs.Layout.{seatCount, row, reads, readItem, writeItem}
 use Rattle.rules.specs.Tables.{Tables}
 use Rattle.reach.specs.Reached.{Reached}
-use Rattle.reach.specs.Invariants.{Holds, LockedIsHeld, OneHolder, AlwaysSized, NeverDamaged, InUse, WritesAscend, ReadsDistinct, ReadsInRange, WritesInRange, UnusedReadsZero, UnusedWritesZero, UntimedZero, FreeRowsZero, WordsTimely, KeptTimely, CommitTimely, KeptOrdered, CommitNotBelow}
+use Rattle.reach.specs.Tally.{Tally}
+use Rattle.reach.specs.Invariants.{Holds, LockedIsHeld, OneHolder, AlwaysSized, NeverDamaged, InUse, WritesAscend}
+use Rattle.reach.specs.Invariants.{ReadsDistinct, ReadsInOrder, ReadsInRange, WritesInRange, UnusedReadsZero, UnusedWritesZero, UntimedZero}
+use Rattle.reach.specs.Invariants.{FreeRowsZero, WordsTimely, KeptTimely, CommitTimely, KeptOrdered, CommitNotBelow}
 use Rattle.reach.proofs.Tests.{by}
 use Rattle.reach.proofs.Count.{one, one-le, count-has, count-some, count-two}
 use Rattle.reach.proofs.Order.{locks, InOrder, Used}
 use Rattle.reach.proofs.Named.{named-yes, named-has}
+use Rattle.reach.proofs.Listed.{listed-at}
 use Rattle.reach.proofs.Rows.{undamaged}
 use Rattle.reach.proofs.Reached.{reached-in-order}
+use Rattle.reach.proofs.Tally.{tally-row, reads-are}
 
 -- LOCKS
 holds-locks : (t : Tables) (s item : ℕ) → Holds t s item → locks (row (t .seats) s) item ≡ true
@@ -78,6 +84,11 @@ module _ (t : Tables) (z : Reached t) where
 
   pub reads-distinct : ReadsDistinct t
   reads-distinct s i j u = used s u .entries .distinct i j
+
+  pub reads-in-order : ReadsInOrder t z
+  reads-in-order s low =
+      let g : List ℕ = row (t .seats) s in
+      (reads-are t z s low, λ i l. sym (listed-at (readItem g) (reads g) i l) ∙ ap (λ (k : Tally). getD (k .read) i 0) (tally-row t z s))
 
   pub reads-in-range : ReadsInRange t
   reads-in-range s i u = used s u .entries .read-in i

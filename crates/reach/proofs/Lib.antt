@@ -4,6 +4,7 @@ pub mod Tests
 pub mod Count
 pub mod Order
 pub mod Named
+pub mod Listed
 pub mod Script
 pub mod Rows
 pub mod Books
@@ -18,9 +19,11 @@ pub mod Begin
 pub mod Effects
 -- the theorems
 pub mod Reached
-pub mod Invariants
 pub mod Tally
+pub mod Invariants
 pub mod FairShare
 pub mod Life
+pub mod Refusals
+pub mod Progress
 pub mod Left
 pub mod Storm

@@ -60,7 +60,7 @@ module _ (t : Tables) (s : ℕ) (u : Used (length (t .words)) (row (t .seats) s)
   ruled-word p l Extends = let a = passes-three g p in says-checked (position g) l (omega arith) refl
   ruled-word p l (Fails n) = let a = passes-three g p in says-aborted (omega arith) refl
 
-  advance-word : Told (advanceIn t s)
+  pub advance-word : Told (advanceIn t s)
   unfolding advanceIn checkPhase checkStep storePhase sealStep storeStep doneStep
   advance-word =
       let h = u .head in
@@ -110,16 +110,16 @@ module _ (t : Tables) (z : Reached t) (s : ℕ) (low : s < seatCount) where
       (λ e. let q = eqb-true (phase g) 0 e in let b = passes-early g (omega arith) in let c = k .rows s low .free q positionAt (omega arith) in omega arith)
       (λ e. let b = passes-in t s (k .rows s low .in-use (eqb-false _ _ e)) in omega arith)
 
-  made-is : passes (row (t .seats) s) ≡ made (tally s (seen z))
+  pub made-is : passes (row (t .seats) s) ≡ made (tally s (seen z))
   made-is =
       let l = script-fits in
       sym (length-take-le (passes (row (t .seats) s)) _ (omega arith)) ∙ ap made (tally-row t z s)
 
-  sealed-four : tally s (seen z) .isSealed ≡ true → phase (row (t .seats) s) ≡ 4
+  pub sealed-four : tally s (seen z) .isSealed ≡ true → phase (row (t .seats) s) ≡ 4
   sealed-four h = eqb-true _ _ (ap (λ (k : Tally). k .isSealed) (tally-row t z s) ∙ h)
 
   -- an Advance that is not refused
-  says : (o : ℕ) → kind (step t (Advance o s) .answer) ≢ refused →
+  pub says : (o : ℕ) → kind (step t (Advance o s) .answer) ≢ refused →
       Word (w (tally s (seen z))) (r (tally s (seen z))) (made (tally s (seen z))) (kind (step t (Advance o s) .answer))
   unfolding step advance
   says o =
@@ -135,7 +135,7 @@ module _ (t : Tables) (z : Reached t) (s : ℕ) (low : s < seatCount) where
       (λ e. let f = fine t o s x last (eqb-true _ _ e) in let p = f .phase-in in absurd (omega arith))
       (λ e. rw e refl)
 
-  made-past : 1 ≤ made (tally s (seen z)) → 1 < phase (row (t .seats) s)
+  pub made-past : 1 ≤ made (tally s (seen z)) → 1 < phase (row (t .seats) s)
   made-past h =
       let g : List ℕ = row (t .seats) s in
       let m = made-is in
@@ -173,7 +173,7 @@ module _ (t : Tables) (z : Reached t) (s : ℕ) (low : s < seatCount) where
             let y = reads-are t z s low in
             word-sealed (says o (λ e. omega arith)) (omega arith) q;
         not-abandoned = λ h o. let p = sealed-four h in refused-past o 0 3 (letGo t s (Dropped s)) (omega arith);
-        abandon-five = λ h. rw (five (sealed-four h)) refl;
+        abandon-five = λ h. rw (← ap (λ (k : Tally). k .holder) (tally-row t z s), five (sealed-four h)) refl;
       }
 
 pub life-of-each : (t : Tables) → LifeOfEach t

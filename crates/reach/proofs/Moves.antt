@@ -2,8 +2,8 @@
 use Prim.Native.Nat.{ℕ, _+_, _*_, _<_, _≤_}
 use mathlib.Core.Path.{_≡_, refl, sym, ap, _∙_}
 use mathlib.Core.Logic.{_≢_}
-use mathlib.Core.Bool.{Bool, true, false, cond, not, true≢false}
-use mathlib.Core.List.{List, [], _∷_, _++_}
+use mathlib.Core.Bool.{Bool, true, false, cond, not, _&&_, _||_, and-true, and-false, true≢false}
+use mathlib.Core.List.{List}
 use native.Mathlib.Omega.{arith}
 use borrow.Author.Tests.{eqb-true, eqb-false, ne-eqb, eq-eqb, ltb-true, ltb-false}
 use lib.Dec.{leb, ltb, eqb}
@@ -23,10 +23,11 @@ use Rattle.rows.specs.Changed.{movedRow, Nudged, not-nudged, nudge-phase, nudge
 use Rattle.rows.specs.Becomes.{Becomes, becomes-put, becomes-moved, then-put}
 use Rattle.rules.specs.CommitTime.{commit-kept}
 use Rattle.reach.specs.Invariants.{lockFrom, lockTo}
-use Rattle.reach.specs.Tally.{Tally, adds}
-use Rattle.reach.proofs.Tests.{by}
+use Rattle.reach.specs.Tally.{oneMore, adds}
+use Rattle.reach.proofs.Tests.{by, or-true, or-false}
 use Rattle.reach.proofs.Count.{one, one-le}
-use Rattle.reach.proofs.Order.{Head, Used, locks, passes, lockBit}
+use Rattle.reach.proofs.Order.{Head, Used, locks, listed, passes, lockBit}
+use Rattle.reach.proofs.Listed.{listed-same}
 use Rattle.reach.proofs.Script.{script-length, Word, says-locked, says-timed, says-checked, says-sealed, says-stored, word-next}
 use Rattle.reach.proofs.Named.{named-yes, named-no, named-same, named-alike, locks-same, locks-none}
 use Rattle.reach.proofs.Rows.{nudged-at, nudged-owner, nudged-reads, nudged-writes, nudged-head, used-nudged, row-used, from-zero, from-four, to-early, to-late, passes-early, passes-three, passes-four, early-fits}
@@ -57,18 +58,6 @@ extends-kept : (wrote upTo tc word : ℕ) (own : Bool) → verdict wrote upTo tc
 unfolding verdict
 extends-kept wrote upTo tc word own e = eqb-true (writeTime word) wrote (by-tests (leb tc upTo) (eqb (writeTime word) wrote) _ e)
 
--- what is told of a row that was g: one word more, sealed or not
-abbrev stepped : ℕ → Bool → List ℕ → Tally
-stepped k b g =
-    record {
-      isOpen = tallyOf g .isOpen;
-      holder = tallyOf g .holder;
-      words = tallyOf g .words ++ (k ∷ []);
-      isSealed = b;
-      wrote = tallyOf g .wrote;
-      read = tallyOf g .read;
-    }
-
 -- one Advance further, answered with a step's word
 record Further (g h : List ℕ) (k : ℕ) : Type 0 where
   least : locked ≤ k
@@ -79,22 +68,24 @@ record Further (g h : List ℕ) (k : ℕ) : Type 0 where
   further : passes h ≡ passes g + 1
 
 -- a nudge leaves the entries, and so the records written and read
-told-more : (y : ℕ) {g h : List ℕ} {ph p tm : ℕ} (a : Answer) (b : Bool) → Nudged g h ph p tm → Word (writes g) (reads g) (passes g) (kind a) →
-    Further g h (kind a) → eqb (phase h) 4 ≡ b → stepped (kind a) b g ≡ adds y a (tallyOf g) → Told y g h a
-told-more y {g} {h} a b n x f e same =
+told-more : (y : ℕ) {g h : List ℕ} {ph p tm : ℕ} (a : Answer) (b : Bool) (held : ℕ → Bool) → Nudged g h ph p tm →
+    Word (writes g) (reads g) (passes g) (kind a) → Further g h (kind a) → eqb (phase h) 4 ≡ b → ((x : ℕ) → locks h x ≡ held x) →
+    oneMore a b held (tallyOf g) ≡ adds y a (tallyOf g) → Told y g h a
+told-more y {g} {h} a b held n x f e holds same =
     let w = nudged-writes n in
     let r = nudged-reads n in
     let z = script-length (writes g) (reads g) in
     let fits = f .fits in
     record {
       tallied =
-          tally-is h (stepped (kind a) b g)
+          tally-is h (oneMore a b held (tallyOf g))
           (ap not (ne-eqb (phase h) 0 (let q = f .is-used in omega arith) ∙ sym (ne-eqb (phase g) 0 (let q = f .was-used in omega arith))))
           (nudged-owner n)
           (rw (f .further, w, r) (word-next x (λ q. omega (arith, f .most)) (omega arith)))
           e
           (named-alike (writeItem g) (writeItem h) 0 (writes g) 0 (writes h) refl w (λ i l. nudged-at n (writeItemAt i) (omega arith)))
-          (named-alike (readItem g) (readItem h) 0 (reads g) 0 (reads h) refl r (λ i l. nudged-at n (readItemAt i) (omega arith)))
+          (ap (listed (readItem h)) r ∙ listed-same (readItem g) (readItem h) (reads g) (λ i l. nudged-at n (readItemAt i) (omega arith)))
+          holds
           ∙ same;
       fair = λ q. absurd (omega (arith, f .most));
       plain = λ q. omega (arith, f .least);
@@ -120,13 +111,17 @@ module _ (t : Tables) (s y : ℕ) (size : length (t .seats) ≡ seatsLength) (sm
         told = told;
       }
 
-  -- the same locks, by words whose locks are the same
-  calm : (words h : List ℕ) {ph p tm : ℕ} → Nudged g h ph p tm → ((x : ℕ) → x < length (t .words) → lockBit words x ≡ lockBit (t .words) x) →
-      lockFrom h ≡ lockFrom g → lockTo h ≡ lockTo g → Follows (t .words) words g h
-  calm words h n eb el et x l le =
-      let a = eb x l in
-      let b : one (locks h x) ≡ one (locks g x) = ap one (locks-same g h el et (λ i _. nudged-at n (writeItemAt i) (omega arith)) x) in
-      omega arith
+  -- the same locks
+  still : (h : List ℕ) {ph p tm : ℕ} → Nudged g h ph p tm → lockFrom h ≡ lockFrom g → lockTo h ≡ lockTo g → (x : ℕ) → locks h x ≡ locks g x
+  still h n el et = locks-same g h el et (λ i _. nudged-at n (writeItemAt i) (omega arith))
+
+  still-checking : (h : List ℕ) {ph p tm : ℕ} → Nudged g h ph p tm → lockFrom h ≡ 0 → phase g ≡ 3 → 3 ≤ phase h → (x : ℕ) → locks h x ≡ locks g x
+  still-checking h n from e late = still h n (from ∙ sym (from-zero g (omega arith))) (to-late h late ∙ nudged-writes n ∙ sym (to-late g (omega arith)))
+
+  -- by words whose locks are the same
+  calm : (words h : List ℕ) → ((x : ℕ) → x < length (t .words) → lockBit words x ≡ lockBit (t .words) x) → ((x : ℕ) → locks h x ≡ locks g x) →
+      Follows (t .words) words g h
+  calm words h eb same x l le = let a = eb x l in let b : one (locks h x) ≡ one (locks g x) = ap one (same x) in omega arith
 
   not-four : (h : List ℕ) → phase g ≢ 4 → phase h ≢ 4 → eqb (phase h) 4 ≡ eqb (phase g) 4
   not-four h a b = ne-eqb _ _ b ∙ sym (ne-eqb _ _ a)
@@ -154,24 +149,31 @@ module _ (t : Tables) (s y : ℕ) (size : length (t .seats) ≡ seatsLength) (sm
       let pg = passes-early g p in
       let ph = passes-early h (omega arith) in
       let now = withLock-is true word in
+      let taken : locks h x ≡ true =
+      named-yes (writeItem h) (lockFrom h) (lockTo h) x (position g) (record { from = omega arith; below = omega arith; named = ent (position g) ∙ sym ex }) in
+      let others : (z : ℕ) → x ≢ z → locks h z ≡ locks g z =
+      (λ z d. named-same (writeItem g) (writeItem h) (lockFrom g) (lockTo g) (lockFrom h) (lockTo h) z
+      (λ i r. let a = r .below in record { from = omega arith; below = omega arith; named = ent i ∙ r .named })
+      (λ i r. let a = r .below in
+      let nm : writeItem g i ≡ z = sym (ent i) ∙ r .named in
+      let j : i ≢ position g = (λ k. d (ex ∙ ap (λ (i : ℕ). writeItem g i) (sym k) ∙ nm)) in
+      record { from = omega arith; below = omega arith; named = nm })) in
+      let more : (z : ℕ) → locks h z ≡ (locks g z || eqb x z) =
+      (λ z. by (eqb x z)
+      (λ e. rw e (ap (locks h) (sym (eqb-true x z e)) ∙ taken ∙ sym (or-true (locks g z))))
+      (λ e. rw e (others z (eqb-false x z e) ∙ sym (or-false (locks g z))))) in
       nudge-step (t .values) (set (t .words) x (withLock true word)) (moved (t .seats) s 2 q) h (Locked x) (becomes-moved (t .seats) s 2 q) n refl (length-set (t .words) x (withLock true word))
       (omega arith)
       (λ k. absurd (omega arith))
       (λ z l le. set-ind (λ v. one (isLocked v) + one (locks g z) ≡ lockBit (t .words) z + one (locks h z)) (t .words) x (withLock true word) z inside
       (λ e. let b0 : lockBit (t .words) z ≡ 0 = ap one (ap (λ (j : ℕ). isLocked (getD (t .words) j 0)) (sym e) ∙ ap isLocked (sym ew) ∙ free) in
       let b1 : one (isLocked (withLock true word)) ≡ 1 = ap one (now .is-locked) in
-      let b2 : one (locks h z) ≡ 1 = ap one (named-yes (writeItem h) (lockFrom h) (lockTo h) z (position g) (record { from = omega arith; below = omega arith; named = ent (position g) ∙ sym ex ∙ e })) in
+      let b2 : one (locks h z) ≡ 1 = ap one (ap (locks h) (sym e) ∙ taken) in
       omega arith)
-      (λ d. let b2 : one (locks h z) ≡ one (locks g z) = ap one (named-same (writeItem g) (writeItem h) (lockFrom g) (lockTo g) (lockFrom h) (lockTo h) z
-      (λ i r. let a = r .below in record { from = omega arith; below = omega arith; named = ent i ∙ r .named })
-      (λ i r. let a = r .below in
-      let nm : writeItem g i ≡ z = sym (ent i) ∙ r .named in
-      let j : i ≢ position g = (λ k. d (ex ∙ ap (λ (i : ℕ). writeItem g i) (sym k) ∙ nm)) in
-      record { from = omega arith; below = omega arith; named = nm })) in
-      omega arith))
+      (λ d. let b2 : one (locks h z) ≡ one (locks g z) = ap one (others z d) in omega arith))
       (λ z l le. set-ind (λ v. readTime v ≤ top) (t .words) x (withLock true word) z inside
       (λ e. rw (now .is-read, ew, e) le) (λ d. le))
-      (told-more y (Locked x) _ n (says-locked (omega arith) refl) (omega arith) (not-four h (omega arith) (omega arith)) refl)
+      (told-more y (Locked x) _ _ n (says-locked (omega arith) refl) (omega arith) (not-four h (omega arith) (omega arith)) more refl)
 
   lock-ok : phase g ≤ 2 → position g < writes g → Step t s y (lockStep t s)
   unfolding lockStep
@@ -191,12 +193,14 @@ module _ (t : Tables) (s y : ℕ) (size : length (t .seats) ≡ seatsLength) (sm
       let hu = u .head .used in
       let pg = passes-early g p in
       let ph = passes-three h (n .is-phase) in
+      let from = from-zero h (omega arith) ∙ sym (from-zero g (omega arith)) in
+      let same = still h n from (to-late h (omega arith) ∙ nudged-writes n ∙ sym e ∙ sym (to-early g p)) in
       nudge-step (t .values) (t .words) (put (moved (t .seats) s 3 0) s timeAt tc) h (Timed tc) (then-put timeAt tc (omega arith) (becomes-moved (t .seats) s 3 0)) n refl refl
       (omega arith)
       (λ q. kept)
-      (calm (t .words) h n (λ x l. refl) (from-zero h (omega arith) ∙ sym (from-zero g (omega arith))) (to-late h (omega arith) ∙ nudged-writes n ∙ sym e ∙ sym (to-early g p)))
+      (calm (t .words) h (λ x l. refl) same)
       (λ x l le. le)
-      (told-more y (Timed tc) _ n (says-timed (omega arith) refl) (omega arith) (not-four h (omega arith) (omega arith)) refl)
+      (told-more y (Timed tc) _ _ n (says-timed (omega arith) refl) (omega arith) (not-four h (omega arith) (omega arith)) same refl)
 
   time-ok : phase g ≤ 2 → writes g ≤ position g → Step t s y (timeStep t s)
   unfolding timeStep
@@ -220,12 +224,14 @@ module _ (t : Tables) (s y : ℕ) (size : length (t .seats) ≡ seatsLength) (sm
       let ht = u .head .timely in
       let pg = passes-three g p in
       let ph = passes-three h (omega arith) in
+      let same = still-checking h n (from-zero h (omega arith)) p (omega arith) in
       nudge-step (t .values) words (put (t .seats) s positionAt q) h (Checked (checkItem g)) (becomes-put (t .seats) s positionAt q (omega arith)) n refl ew
       (omega arith)
       (u .not-below)
-      (calm words h n eb (from-zero h (omega arith) ∙ sym (from-zero g (omega arith))) (to-late h (omega arith) ∙ nudged-writes n ∙ sym (to-late g (omega arith))))
+      (calm words h eb same)
       et
-      (told-more y (Checked (checkItem g)) _ n (says-checked (position g) b (omega arith) refl) (omega arith) (not-four h (omega arith) (omega arith)) refl)
+      (told-more y (Checked (checkItem g)) _ _ n (says-checked (position g) b (omega arith) refl) (omega arith) (not-four h (omega arith) (omega arith))
+      same refl)
 
   ruled-ok : phase g ≡ 3 → position g < reads g → (v : Verdict) → judged (t .words) g ≡ v → Step t s y (ruled t s v)
   unfolding ruled judged stretched
@@ -255,12 +261,13 @@ module _ (t : Tables) (s y : ℕ) (size : length (t .seats) ≡ seatsLength) (sm
       let ht = u .head .timely in
       let pg = passes-three g p in
       let ph = passes-four h (n .is-phase) in
+      let same = still-checking h n (from-four h (n .is-phase) ∙ n .is-position) p (omega arith) in
       nudge-step (t .values) (t .words) (moved (t .seats) s 4 0) h (Sealed (time g)) (becomes-moved (t .seats) s 4 0) n refl refl
       (omega arith)
       (λ q. u .not-below (omega arith))
-      (calm (t .words) h n (λ x l. refl) (from-four h (n .is-phase) ∙ n .is-position ∙ sym (from-zero g (omega arith))) (to-late h (omega arith) ∙ nudged-writes n ∙ sym (to-late g (omega arith))))
+      (calm (t .words) h (λ x l. refl) same)
       (λ x l le. le)
-      (told-more y (Sealed (time g)) true n (says-sealed (omega arith) refl) (omega arith) (eq-eqb (phase h) 4 (n .is-phase)) refl)
+      (told-more y (Sealed (time g)) true _ n (says-sealed (omega arith) refl) (omega arith) (eq-eqb (phase h) 4 (n .is-phase)) same refl)
 
   -- PHASE 4
   store-ok : phase g ≡ 4 → position g < writes g → Step t s y (storeStep t s)
@@ -284,27 +291,34 @@ module _ (t : Tables) (s y : ℕ) (size : length (t .seats) ≡ seatsLength) (sm
       let th = to-late h (omega arith) in
       let ent : (i : ℕ) → writeItem h i ≡ writeItem g i = (λ i. nudged-at n (writeItemAt i) (omega arith)) in
       let now = fresh-is (time g) ht in
+      let given : locks h x ≡ false =
+      named-no (writeItem h) (lockFrom h) (lockTo h) x (λ i r.
+      let a = r .from in let k = r .below in
+      let up = u .entries .ascending (position g) i (omega arith) (omega arith) in
+      let nm : writeItem g i ≡ x = sym (ent i) ∙ r .named in
+      omega arith) in
+      let others : (z : ℕ) → x ≢ z → locks h z ≡ locks g z =
+      (λ z d. named-same (writeItem g) (writeItem h) (lockFrom g) (lockTo g) (lockFrom h) (lockTo h) z
+      (λ i r. let a = r .from in let k = r .below in
+      let j : i ≢ position g = (λ k. d (ap (λ (i : ℕ). writeItem g i) (sym k) ∙ r .named)) in
+      record { from = omega arith; below = omega arith; named = ent i ∙ r .named })
+      (λ i r. let a = r .from in let k = r .below in record { from = omega arith; below = omega arith; named = sym (ent i) ∙ r .named })) in
+      let less : (z : ℕ) → locks h z ≡ (locks g z && not (eqb x z)) =
+      (λ z. by (eqb x z)
+      (λ e. rw e (ap (locks h) (sym (eqb-true x z e)) ∙ given ∙ sym (and-false (locks g z))))
+      (λ e. rw e (others z (eqb-false x z e) ∙ sym (and-true (locks g z))))) in
       nudge-step (set (t .values) x v) (set (t .words) x f) (put (t .seats) s positionAt q) h (Stored x) (becomes-put (t .seats) s positionAt q (omega arith)) n (length-set (t .values) x v) (length-set (t .words) x f)
       (omega arith)
       (u .not-below)
       (λ z l le. set-ind (λ v. one (isLocked v) + one (locks g z) ≡ lockBit (t .words) z + one (locks h z)) (t .words) x f z inside
       (λ e. let b0 : one (locks g z) ≡ 1 = ap one (named-yes (writeItem g) (lockFrom g) (lockTo g) z (position g) (record { from = omega arith; below = omega arith; named = e })) in
       let b1 : one (isLocked f) ≡ 0 = ap one (now .is-locked) in
-      let b2 : one (locks h z) ≡ 0 = ap one (named-no (writeItem h) (lockFrom h) (lockTo h) z (λ i r.
-      let a = r .from in let k = r .below in
-      let up = u .entries .ascending (position g) i (omega arith) (omega arith) in
-      let nm : writeItem g i ≡ x = sym (ent i) ∙ r .named ∙ sym e in
-      omega arith)) in
+      let b2 : one (locks h z) ≡ 0 = ap one (ap (locks h) (sym e) ∙ given) in
       let b3 = one-le (isLocked (getD (t .words) z 0)) in
       omega arith)
-      (λ d. let b2 : one (locks h z) ≡ one (locks g z) = ap one (named-same (writeItem g) (writeItem h) (lockFrom g) (lockTo g) (lockFrom h) (lockTo h) z
-      (λ i r. let a = r .from in let k = r .below in
-      let j : i ≢ position g = (λ k. d (ap (λ (i : ℕ). writeItem g i) (sym k) ∙ r .named)) in
-      record { from = omega arith; below = omega arith; named = ent i ∙ r .named })
-      (λ i r. let a = r .from in let k = r .below in record { from = omega arith; below = omega arith; named = sym (ent i) ∙ r .named })) in
-      omega arith))
+      (λ d. let b2 : one (locks h z) ≡ one (locks g z) = ap one (others z d) in omega arith))
       (λ z l le. set-ind (λ v. readTime v ≤ top) (t .words) x f z inside (λ e. rw (now .is-read) ht) (λ d. le))
-      (told-more y (Stored x) _ n (says-stored (position g) b (omega arith) refl) (omega arith) (ap (λ (k : ℕ). eqb k 4) (n .is-phase)) refl)
+      (told-more y (Stored x) _ _ n (says-stored (position g) b (omega arith) refl) (omega arith) (ap (λ (k : ℕ). eqb k 4) (n .is-phase)) less refl)
 
   done-ok : phase g ≡ 4 → writes g ≤ position g → Step t s y (doneStep t s)
   unfolding doneStep

@@ -9,7 +9,8 @@ use borrow.Author.Tests.{eqb-true, eqb-false, ne-eqb, eq-eqb, leb-false, le-ltb,
 use lib.Dec.{leb, eqb}
 use lib.ListN.{length, take}
 use Rattle.rules.specs.Tests.{firstOf}
-use Rattle.rules.specs.Layout.{owners, seatCount, mostRecords, seatsLength, positionAt, readsAt, writesAt, timeAt, row, phase, owner, position, reads, writes, time, share, limit}
+use Rattle.rules.specs.Layout.{owners, seatCount, mostRecords, seatsLength, positionAt, readsAt, writesAt, timeAt}
+use Rattle.rules.specs.Layout.{row, phase, owner, position, reads, writes, time, readItem, share, limit}
 use Rattle.rules.specs.Places.{length-row}
 use Rattle.rules.specs.Tables.{Tables, after}
 use Rattle.rules.specs.Refusals.{unsized}
@@ -24,7 +25,7 @@ use Rattle.reach.specs.Tally.{adds}
 use Rattle.reach.specs.Life.{script}
 use Rattle.reach.proofs.Tests.{by, all-none, not-third}
 use Rattle.reach.proofs.Count.{one}
-use Rattle.reach.proofs.Order.{locks, Books, InOrder}
+use Rattle.reach.proofs.Order.{locks, listed, Books, InOrder}
 use Rattle.reach.proofs.Named.{named-empty, locks-none}
 use Rattle.reach.proofs.Rows.{row-used, to-early, passes-early}
 use Rattle.reach.proofs.Books.{books-open}
@@ -140,7 +141,7 @@ module _ (t : Tables) (k : InOrder t) (o : ℕ) where
         }
 
     pub open-told : Told o (row (t .seats) s) (openedRow o) (Seat s)
-    unfolding adds
+    unfolding adds listed
     open-told =
         let z = opened-row o in
         let d0 : phase h ≡ 1 = z .is-phase in
@@ -155,7 +156,8 @@ module _ (t : Tables) (k : InOrder t) (o : ℕ) where
               (ap (λ (n : ℕ). take n (script (writes h) (reads h))) (passes-early h (omega arith) ∙ d2))
               (ne-eqb (phase h) 4 (omega arith))
               (λ x. named-empty _ 0 (writes h) x (omega arith))
-              (λ x. named-empty _ 0 (reads h) x (omega arith));
+              (ap (listed (readItem h)) d3)
+              (λ x. locks-none h x (let y = to-early h (omega arith) in omega arith));
           fair = λ e. absurd (omega arith);
           plain = λ e. omega arith;
         }

@@ -7,7 +7,7 @@ use native.Mathlib.Omega.{arith}
 use native.Mathlib.Numerals.{add-one}
 use lib.ListN.{length, getD, take, replicate, length-replicate, length-append, getD-replicate, List·getD-append}
 use lib.Seq.{getD-append-add, take-suc}
-use Rattle.rules.specs.Answers.{ready, locked, timed, checked, sealed, stored, done, aborted}
+use Rattle.rules.specs.Answers.{ready, locked, timed, checked, sealed, stored, done, refused, aborted}
 use Rattle.reach.specs.Life.{script, ScriptLength}
 
 pub front : (k a : ℕ) (l : List ℕ) (i : ℕ) → i < k → getD (replicate k a ++ l) i ready ≡ a
@@ -91,7 +91,27 @@ word-sealed (says-sealed p e) h = λ q. omega arith
 word-sealed (says-stored i l p e) h = λ q. omega arith
 word-sealed (says-done p e) h = λ q. omega arith
 
+-- none of them is a refusal
+pub word-given : {w r n k : ℕ} → Word w r n k → k ≢ refused
+word-given (says-aborted l e) = λ q. omega arith
+word-given (says-locked l e) = λ q. omega arith
+word-given (says-timed p e) = λ q. omega arith
+word-given (says-checked i l p e) = λ q. omega arith
+word-given (says-sealed p e) = λ q. omega arith
+word-given (says-stored i l p e) = λ q. omega arith
+word-given (says-done p e) = λ q. omega arith
+
 -- the script's words so far, and one more
 pub word-next : {w r n k : ℕ} → Word w r n k → k ≢ aborted → n < length (script w r) → take (n + 1) (script w r) ≡ take n (script w r) ++ (k ∷ [])
 word-next {w} {r} {n} {k} x d l =
     ap (λ (i : ℕ). take i (script w r)) (add-one n) ∙ take-suc (script w r) n ready l ∙ ap (λ (i : ℕ). take n (script w r) ++ (i ∷ [])) (sym (word-script x d))
+
+-- Sealed comes after every lock, the time and every check
+pub word-sealing : {w r n k : ℕ} → Word w r n k → k ≡ sealed → n ≡ w + r + 1
+word-sealing (says-aborted l e) = λ q. absurd (omega arith)
+word-sealing (says-locked l e) = λ q. absurd (omega arith)
+word-sealing (says-timed p e) = λ q. absurd (omega arith)
+word-sealing (says-checked i l p e) = λ q. absurd (omega arith)
+word-sealing (says-sealed p e) = λ q. omega arith
+word-sealing (says-stored i l p e) = λ q. absurd (omega arith)
+word-sealing (says-done p e) = λ q. absurd (omega arith)

@@ -19,7 +19,7 @@ use Rattle.reach.specs.Tally.{Tally, adds}
 use Rattle.reach.specs.Life.{script}
 use Rattle.reach.proofs.Tests.{by}
 use Rattle.reach.proofs.Count.{one, count-change, count-has}
-use Rattle.reach.proofs.Order.{Row, locks, written, hasRead, passes, Books, lockBit, InOrder}
+use Rattle.reach.proofs.Order.{Row, locks, written, readList, passes, Books, lockBit, InOrder}
 use Rattle.reach.proofs.Books.{heldBy}
 
 -- a record's lock goes with the hold on it of the row that was g and is h
@@ -49,13 +49,15 @@ tallyOf g =
       words = take (passes g) (script (writes g) (reads g));
       isSealed = eqb (phase g) 4;
       wrote = written g;
-      read = hasRead g;
+      read = readList g;
+      locked = locks g;
     }
 
 pub tally-is : (h : List ℕ) (k : Tally) → not (eqb (phase h) 0) ≡ k .isOpen → owner h ≡ k .holder →
     take (passes h) (script (writes h) (reads h)) ≡ k .words → eqb (phase h) 4 ≡ k .isSealed → ((x : ℕ) → written h x ≡ k .wrote x) →
-    ((x : ℕ) → hasRead h x ≡ k .read x) → tallyOf h ≡ k
-tally-is h k p q a b c d = λ i. record { isOpen = p i; holder = q i; words = a i; isSealed = b i; wrote = λ x. c x i; read = λ x. d x i }
+    readList h ≡ k .read → ((x : ℕ) → locks h x ≡ k .locked x) → tallyOf h ≡ k
+tally-is h k p q a b c d e =
+    λ i. record { isOpen = p i; holder = q i; words = a i; isSealed = b i; wrote = λ x. c x i; read = d i; locked = λ x. e x i }
 
 -- what an answer says of the row before and after, for a call that names y
 pub record Told (y : ℕ) (g h : List ℕ) (a : Answer) : Type 0 where

@@ -1,6 +1,5 @@
 -- The tally of calls and answers is what the rows say.
 use Prim.Native.Nat.{ℕ, _<_, _≤_}
-use mathlib.Core.Logic.{_≢_}
 use mathlib.Core.Path.{_≡_, refl, sym, ap, _∙_, subst}
 use mathlib.Core.List.{List, [], _∷_}
 use native.Mathlib.Omega.{arith}
@@ -8,14 +7,15 @@ use borrow.Author.Tests.{eqb-true, eqb-false}
 use lib.Dec.{eqb}
 use lib.ListN.{length}
 use Rattle.rules.specs.Tests.{count}
-use Rattle.rules.specs.Layout.{seatCount, mostRecords, readsAt, writesAt, row, phase, reads, writes, readItem, writeItem}
+use Rattle.rules.specs.Layout.{seatCount, mostRecords, writesAt, row, phase, reads, writes, readItem, writeItem}
 use Rattle.rules.specs.Tables.{Tables, Outcome}
 use Rattle.rules.specs.Calls.{Call, step, run, history}
 use Rattle.rules.specs.declared.Answer.the-variants.{Refused}
 use Rattle.reach.specs.Reached.{Reached, begun, seen}
 use Rattle.reach.specs.Tally.{adds, about, noted, tallied, tally, w, r}
 use Rattle.reach.proofs.Tests.{by}
-use Rattle.reach.proofs.Order.{Zero, Entries, Row, named, InOrder}
+use Rattle.reach.proofs.Order.{Row, written, InOrder}
+use Rattle.reach.proofs.Listed.{length-listed}
 use Rattle.reach.proofs.Named.{named-count}
 use Rattle.reach.proofs.Steps.{tallyOf}
 use Rattle.reach.proofs.Freed.{tally-free}
@@ -34,7 +34,7 @@ module _ (s : ℕ) where
       (by (eqb j s)
       (λ y. let q = eqb-true j s y in rw (y, ← q, ch .becomes .own) (told .tallied))
       (λ y. rw (y, ch .becomes .others s (λ q. eqb-false j s y (sym q))) refl))
-  tally-effect t c o (begins n start plan q e a b z p) = rw (a s, e) (tally-free (row (o .tables .seats) s) (z s))
+  tally-effect t c o (begins start plan q e m a b z p) = rw (a s, e) (tally-free (row (o .tables .seats) s) (z s))
 
   tally-run : (t : Tables) → InOrder t → (cs : List Call) → tallyOf (row (run t cs .seats) s) ≡ tallied s (history t cs) (tallyOf (row (t .seats) s))
   unfolding run history tallied
@@ -50,13 +50,14 @@ tally-row t z s =
     ∙ tally-run s (begun z) (begun-in-order (z .opening) (z .start) (z .plan) (z .answered)) (z .calls)
     ∙ ap (tallied s (seen z)) (tally-free (row (begun z .seats) s) (begun-free (z .opening) (z .start) (z .plan) (z .answered) s))
 
--- and its counts are the numbers of records written and read: a free row has no entries, those of a row in use name distinct records
-entries-count : (n : ℕ) (g : List ℕ) (items : ℕ → ℕ) (m : ℕ) → n ≤ mostRecords → Row n g → (Zero g → m ≡ 0) →
-    (Entries n g → ((i : ℕ) → i < m → items i < n) × ((i j : ℕ) → i < j → j < m → items i ≢ items j)) → count (named items 0 m) mostRecords ≡ m
-entries-count n g items m few row none some =
+-- and its count of writes is the number of records written: a free row has no entries, those of a row in use name distinct records
+written-count : (n : ℕ) (g : List ℕ) → n ≤ mostRecords → Row n g → count (written g) mostRecords ≡ writes g
+written-count n g few row =
     by (eqb (phase g) 0)
-    (λ e. let q = none (row .free (eqb-true _ _ e)) in named-count items mostRecords m (λ i l. absurd (omega arith)) (λ i j a l. absurd (omega arith)))
-    (λ e. let q = some (row .in-use (eqb-false _ _ e) .entries) in named-count items mostRecords m (λ i l. let b = q .0 i l in omega arith) (q .1))
+    (λ e. let q = row .free (eqb-true _ _ e) writesAt (omega arith) in
+    named-count (writeItem g) mostRecords (writes g) (λ i l. absurd (omega arith)) (λ i j a l. absurd (omega arith)))
+    (λ e. let q = row .in-use (eqb-false _ _ e) .entries in
+    named-count (writeItem g) mostRecords (writes g) (λ i l. let b = q .write-in i l in omega arith) (λ i j a l. let b = q .ascending i j a l in omega arith))
 
 module _ (t : Tables) (z : Reached t) (s : ℕ) (low : s < seatCount) where
   abbrev g : List ℕ
@@ -66,13 +67,7 @@ module _ (t : Tables) (z : Reached t) (s : ℕ) (low : s < seatCount) where
   k = reached-in-order t z
 
   pub writes-are : writes (row (t .seats) s) ≡ w (tally s (seen z))
-  writes-are =
-      sym (entries-count (length (t .words)) g (writeItem g) (writes g) (k .sized .few) (k .rows s low) (λ q. q writesAt (omega arith))
-      (λ n. (n .write-in, λ i j a l. let b = n .ascending i j a l in omega arith)))
-      ∙ ap w (tally-row t z s)
+  writes-are = sym (written-count (length (t .words)) g (k .sized .few) (k .rows s low)) ∙ ap w (tally-row t z s)
 
   pub reads-are : reads (row (t .seats) s) ≡ r (tally s (seen z))
-  reads-are =
-      sym (entries-count (length (t .words)) g (readItem g) (reads g) (k .sized .few) (k .rows s low) (λ q. q readsAt (omega arith))
-      (λ n. (n .read-in, n .distinct)))
-      ∙ ap r (tally-row t z s)
+  reads-are = sym (length-listed (readItem g) (reads g)) ∙ ap r (tally-row t z s)

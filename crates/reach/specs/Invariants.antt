@@ -11,6 +11,8 @@ use Rattle.rules.specs.Layout.{seatCount, rowWidth, writesFrom, readItemAt, wri
 use Rattle.rules.specs.Tables.{Tables}
 use Rattle.rules.specs.Refusals.{damaged}
 use Rattle.rows.specs.Fine.{Sized}
+use Rattle.reach.specs.Reached.{Reached, seen}
+use Rattle.reach.specs.Tally.{tally, r}
 
 -- LOCKS. A row holds the locks of its write entries from `lockFrom` below `lockTo`:
 -- in phases 1 and 2 of the first `position`, in phase 3 of all, in phase 4 of those from position on
@@ -60,6 +62,12 @@ module _ (t : Tables) where
 
   abbrev pub ReadsDistinct : Type 0
   ReadsDistinct = (s i j : ℕ) → InUse s → i < j → j < reads (rowOf t s) → readItem (rowOf t s) i ≢ readItem (rowOf t s) j
+
+  -- read entries stand in order of first read, as calls and answers tell it: there are as many as records first read, and each names the one at its place
+  abbrev pub ReadsInOrder : Reached t → Type 0
+  ReadsInOrder z = (s : ℕ) → s < seatCount →
+      (reads (rowOf t s) ≡ r (tally s (seen z)))
+      × ((i : ℕ) → i < reads (rowOf t s) → readItem (rowOf t s) i ≡ getD (tally s (seen z) .read) i 0)
 
   abbrev pub ReadsInRange : Type 0
   ReadsInRange = (s i : ℕ) → InUse s → i < reads (rowOf t s) → readItem (rowOf t s) i < length (t .words)

@@ -5,7 +5,7 @@ use mathlib.Core.Logic.{_≢_, _↔_}
 use mathlib.Core.Bool.{true}
 use mathlib.Core.List.{List, [], _∷_, _++_}
 use lib.ListN.{length, getD, take, replicate}
-use Rattle.rules.specs.Layout.{seatCount, row, owner}
+use Rattle.rules.specs.Layout.{seatCount}
 use Rattle.rules.specs.Tables.{Tables}
 use Rattle.rules.specs.Answers.{ready, locked, timed, checked, sealed, stored, done, refused, aborted, kind}
 use Rattle.rules.specs.Calls.{Read, Write, Advance, Abandon, step}
@@ -40,7 +40,7 @@ pub record Life (t : Tables) (s : ℕ) (k : Tally) : Type 0 where
   -- ONCE SEALED, NEVER ABORTED; and Abandon is refused, its owner's with 5
   pub never-aborted : k .isSealed ≡ true → (o : ℕ) → kind (advanced t o s) ≢ aborted
   pub not-abandoned : k .isSealed ≡ true → (o : ℕ) → kind (step t (Abandon o s) .answer) ≡ refused
-  pub abandon-five : k .isSealed ≡ true → step t (Abandon (owner (row (t .seats) s)) s) .answer ≡ Refused 5
+  pub abandon-five : k .isSealed ≡ true → step t (Abandon (k .holder) s) .answer ≡ Refused 5
 
 abbrev pub LifeOfEach : Tables → Type 0
 LifeOfEach t = (z : Reached t) (s : ℕ) → s < seatCount → Life t s (tally s (seen z))

@@ -6,7 +6,7 @@ use lib.Dec.{eqb}
 use lib.ListN.{length}
 use Rattle.rules.specs.Tests.{count}
 use Rattle.rules.specs.Layout.{mostRecords, seatCount}
-use Rattle.rules.specs.Answers.{sealed, kind, number}
+use Rattle.rules.specs.Answers.{kind, number}
 use Rattle.rules.specs.Calls.{Call, Setup, Open, Read, Write, Advance, Abandon, Event}
 use Rattle.rules.specs.declared.Answer.{Answer}
 use Rattle.rules.specs.declared.Answer.the-variants.{Ready, Seat, Value, Noted, Locked, Timed, Checked, Sealed, Stored, Done, Dropped, Refused, Aborted}
@@ -18,22 +18,41 @@ pub record Tally : Type 0 where
   -- the words that its Advances have been answered with so far, refused ones left out
   pub words : List ℕ
   pub isSealed : Bool
-  -- the records that it has written, and those that it has read and had not written before
+  -- the records that it has written, and those that it has read and had not written before, in the order of the first reads
   pub wrote : ℕ → Bool
-  pub read : ℕ → Bool
+  pub read : List ℕ
+  -- the records that it was answered Locked for and has not stored since
+  pub locked : ℕ → Bool
 
 abbrev pub nothing : Tally
-nothing = record { isOpen = false; holder = 0; words = []; isSealed = false; wrote = λ x. false; read = λ x. false }
+nothing = record { isOpen = false; holder = 0; words = []; isSealed = false; wrote = λ x. false; read = []; locked = λ x. false }
 
--- one Advance more
-abbrev pub oneMore : Answer → Tally → Tally
-oneMore a k =
-    record { isOpen = k .isOpen; holder = k .holder; words = k .words ++ (kind a ∷ []); isSealed = k .isSealed; wrote = k .wrote; read = k .read }
+-- a record is among those of a list
+unfoldable pub among : ℕ → List ℕ → Bool
+among x [] = false
+among x (y ∷ ys) = eqb y x || among x ys
+
+-- it has been read or written by the seat, so that its value is known there
+abbrev pub knows : Tally → ℕ → Bool
+knows k x = k .wrote x || among x (k .read)
+
+-- one Advance more, after which it is sealed or not and holds these locks
+abbrev pub oneMore : Answer → Bool → (ℕ → Bool) → Tally → Tally
+oneMore a isSealed locked k =
+    record {
+      isOpen = k .isOpen;
+      holder = k .holder;
+      words = k .words ++ (kind a ∷ []);
+      isSealed = isSealed;
+      wrote = k .wrote;
+      read = k .read;
+      locked = locked;
+    }
 
 -- what an answer adds, to a call that names y: Open names an owner, Read and Write a record. A refusal adds nothing
 unfoldable pub adds : ℕ → Answer → Tally → Tally
 adds y (Ready n) k = nothing
-adds y (Seat n) k = record { isOpen = true; holder = y; words = []; isSealed = false; wrote = λ x. false; read = λ x. false }
+adds y (Seat n) k = record { isOpen = true; holder = y; words = []; isSealed = false; wrote = λ x. false; read = []; locked = λ x. false }
 adds y (Value n) k =
     record {
       isOpen = k .isOpen;
@@ -41,7 +60,8 @@ adds y (Value n) k =
       words = k .words;
       isSealed = k .isSealed;
       wrote = k .wrote;
-      read = λ x. k .read x || (eqb y x && not (k .wrote x));
+      read = cond (knows k y) (k .read) (k .read ++ (y ∷ []));
+      locked = k .locked;
     }
 adds y (Noted n) k =
     record {
@@ -49,15 +69,15 @@ adds y (Noted n) k =
       holder = k .holder;
       words = k .words;
       isSealed = k .isSealed;
-      read = k .read;
       wrote = λ x. k .wrote x || eqb n x;
+      read = k .read;
+      locked = k .locked;
     }
-adds y (Locked n) k = oneMore (Locked n) k
-adds y (Timed n) k = oneMore (Timed n) k
-adds y (Checked n) k = oneMore (Checked n) k
-adds y (Sealed n) k =
-    record { isOpen = k .isOpen; holder = k .holder; words = k .words ++ (sealed ∷ []); isSealed = true; wrote = k .wrote; read = k .read }
-adds y (Stored n) k = oneMore (Stored n) k
+adds y (Locked n) k = oneMore (Locked n) (k .isSealed) (λ x. k .locked x || eqb n x) k
+adds y (Timed n) k = oneMore (Timed n) (k .isSealed) (k .locked) k
+adds y (Checked n) k = oneMore (Checked n) (k .isSealed) (k .locked) k
+adds y (Sealed n) k = oneMore (Sealed n) true (k .locked) k
+adds y (Stored n) k = oneMore (Stored n) (k .isSealed) (λ x. k .locked x && not (eqb n x)) k
 adds y (Done n) k = nothing
 adds y (Dropped n) k = nothing
 adds y (Refused n) k = k
@@ -100,8 +120,11 @@ abbrev pub w : Tally → ℕ
 w k = count (k .wrote) mostRecords
 
 abbrev pub r : Tally → ℕ
-r k = count (k .read) mostRecords
+r k = length (k .read)
 
--- how many seats an owner holds
+-- whether it is owner o's, and how many seats an owner holds
+abbrev pub isOf : ℕ → Tally → Bool
+isOf o k = k .isOpen && eqb (k .holder) o
+
 abbrev pub seatsOf : ℕ → List Event → ℕ
-seatsOf o es = count (λ s. tally s es .isOpen && eqb (tally s es .holder) o) seatCount
+seatsOf o es = count (λ s. isOf o (tally s es)) seatCount

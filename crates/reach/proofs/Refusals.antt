@@ -1,0 +1,208 @@
+-- Every refusal exactly when it is due: the theorem of specs/Refusals.
+use Prim.Native.Nat.{ℕ, _<_, _≤_, max}
+use mathlib.Core.Path.{_≡_, refl, sym, ap, _∙_, subst}
+use mathlib.Core.Logic.{_≢_, _↔_}
+use mathlib.Core.Bool.{Bool, true, false, not, _&&_, _||_}
+use mathlib.Core.List.{List}
+use native.Mathlib.Omega.{arith}
+use borrow.Author.Tests.{eqb-true, eqb-false, eq-eqb, ltb-true, lt-ltb, le-ltb, leb-true, leb-false, le-leb}
+use lib.Dec.{eqb, ltb, leb}
+use lib.ListN.{length, getD}
+use Rattle.clock.specs.Word.{isLocked}
+use Rattle.rules.specs.Tests.{any, count, oneOf, firstOf}
+use Rattle.rules.specs.Layout.{owners, seatCount, mostReads, mostWrites, shareAt, limitAt, row, phase, owner, reads, writes, share}
+use Rattle.rules.specs.Tables.{Tables, Outcome, unless}
+use Rattle.rules.specs.Refusals.{misnamed, foreign, refusal}
+use Rattle.rules.specs.Plan.{setupRefusal, setup, claim, claims, crowded, openRefusal, openSeat}
+use Rattle.rules.specs.Work.{readOf, writeOf, firstRead, readIn, read, writeIn, write}
+use Rattle.rules.specs.Advance.{letGo, advanceIn, advance, abandon}
+use Rattle.rules.specs.Answers.{refused, kind, number}
+use Rattle.rules.specs.Calls.{Call, Setup, Open, Read, Write, Advance, Abandon, step}
+use Rattle.rules.specs.declared.Answer.{Answer}
+use Rattle.rules.specs.declared.Answer.the-variants.{Refused, Dropped}
+use Rattle.rows.specs.Search.{none-any}
+use Rattle.rows.specs.Fine.{fine}
+use Rattle.reach.specs.Reached.{Reached, seen}
+use Rattle.reach.specs.Tally.{Tally, tally, made, isOf}
+use Rattle.reach.specs.Refusals.{known, orElse, has, claimed, isHeld, seatDue, readDue, writeDue, openDue, due, EveryRefusal}
+use Rattle.reach.proofs.Tests.{by, same-test, some-any}
+use Rattle.reach.proofs.Count.{one, sum-same, count-has, count-some}
+use Rattle.reach.proofs.Order.{locks, passes, InOrder}
+use Rattle.reach.proofs.Listed.{written-is, read-is}
+use Rattle.reach.proofs.Script.{word-given}
+use Rattle.reach.proofs.Rows.{undamaged, passes-early, passes-three, passes-four}
+use Rattle.reach.proofs.Steps.{tallyOf}
+use Rattle.reach.proofs.Opens.{not-unsized, open-refusal, open-no-owner}
+use Rattle.reach.proofs.Effects.{seat-in, used-of}
+use Rattle.reach.proofs.Reached.{records-told, reached-in-order}
+use Rattle.reach.proofs.Tally.{tally-row, writes-are, reads-are}
+use Rattle.reach.proofs.FairShare.{plan-kept, held-seen}
+use Rattle.reach.proofs.Life.{advance-word, made-is, made-past}
+
+-- an answer is a refusal exactly where n is not 0, and then carries n
+pub record Exactly (a : Answer) (n : ℕ) : Type 0 where
+  pub if-due : n ≢ 0 → a ≡ Refused n
+  pub else-not : n ≡ 0 → kind a ≢ refused
+
+exactly-iff : {a : Answer} {n : ℕ} → Exactly a n → (m : ℕ) → (a ≡ Refused m) ↔ ((m ≢ 0) × (n ≡ m))
+exactly-iff {a} {n} x m = (
+  λ e. let kd : kind a ≡ refused = ap kind e in
+      let d : n ≢ 0 = (λ q. x .else-not q kd) in
+      let same : n ≡ m = ap number (sym (x .if-due d) ∙ e) in
+      ((λ q. d (same ∙ q)), same),
+  λ q. x .if-due (λ e. q .0 (sym (q .1) ∙ e)) ∙ ap Refused (q .1),
+)
+
+of-due : {a : Answer} {n m : ℕ} → n ≡ m → Exactly a n → Exactly a m
+of-due {a} e x = subst (Exactly a) e x
+
+given : (a : Answer) → kind a ≢ refused → Exactly a 0
+given a d = record { if-due = λ q. absurd (q refl); else-not = λ q. d }
+
+refusing : (n : ℕ) → n ≢ 0 → Exactly (Refused n) n
+refusing n d = record { if-due = λ q. refl; else-not = λ q. absurd (d q) }
+
+-- the first number that is due, and then what the outcome is refused for
+guarded : (why m : ℕ) (t : Tables) (o : Outcome) → (why ≡ 0 → Exactly (o .answer) m) → Exactly (unless why t o .answer) (orElse why m)
+guarded why m t o f = by (eqb why 0) (λ e. rw e (f (eqb-true why 0 e))) (λ e. rw e (refusing why (eqb-false why 0 e)))
+
+guarded-only : (why : ℕ) (t : Tables) (o : Outcome) → (why ≡ 0 → kind (o .answer) ≢ refused) → Exactly (unless why t o .answer) why
+guarded-only why t o f =
+    by (eqb why 0)
+    (λ e. let q = eqb-true why 0 e in rw (e, q) (given (o .answer) (f q)))
+    (λ e. rw e (refusing why (eqb-false why 0 e)))
+
+-- one is counted exactly where one passes
+any-count : (p : ℕ → Bool) (n : ℕ) (b : Bool) → count p n ≡ one b → any p n ≡ b
+any-count p n true e = let q = count-some p n (omega arith) in some-any p n (q .0) (q .1) (q .2)
+any-count p n false e =
+    none-any p n (λ i l. by (p i) (λ y. absurd (let a : one (p i) ≡ 1 = ap one y in let m = count-has p i n l in omega arith)) (λ y. y))
+
+-- the rules' test for 4, of a row and of what is told of it
+foreign-is : (g : List ℕ) (o : ℕ) → foreign g o ≡ not (isOf o (tallyOf g))
+unfolding foreign oneOf
+foreign-is g o = either (eqb (phase g) 0) (eqb (owner g) o)
+  where
+    either : (a b : Bool) → (a || not b) ≡ not (not a && b)
+    either true b = refl
+    either false b = refl
+
+module _ (t : Tables) (z : Reached t) where
+  k : InOrder t
+  k = reached-in-order t z
+
+  pub seat-is : (s : ℕ) → tally s (seen z) ≡ tallyOf (row (t .seats) s)
+  seat-is s = sym (tally-row t z s)
+
+  -- A CALL THAT NAMES A SEAT
+  pub refusal-is : (o s x last : ℕ) (late : Bool) → (s < seatCount → ltb last (phase (row (t .seats) s)) ≡ late) →
+      refusal t o s x last ≡ seatDue (known z) o s x late
+  unfolding refusal firstOf seatDue
+  refusal-is o s x last late h =
+      rw (not-unsized t k, ← records-told t z)
+      (by (misnamed (length (t .words)) o s x) (λ e. rw e refl)
+      (λ e. let low = seat-in _ o s x e in
+      let sound = undamaged (row (t .seats) s) (length (t .words)) (k .rows s low) in
+      rw (e, sound, foreign-is (row (t .seats) s) o, h low, seat-is s) refl))
+
+  -- too late for Read and Write, for Abandon, for Advance
+  module _ (s : ℕ) (low : s < seatCount) where
+    abbrev g : List ℕ
+    g = row (t .seats) s
+
+    phase-in : phase (row (t .seats) s) ≤ 4
+    phase-in = by (eqb (phase g) 0) (λ e. let q = eqb-true (phase g) 0 e in omega arith) (λ e. k .rows s low .in-use (eqb-false _ _ e) .head .phase-in)
+
+    passes-past : 1 < phase (row (t .seats) s) → 1 ≤ passes (row (t .seats) s)
+    passes-past h =
+        let p = phase-in in
+        let hd = k .rows s low .in-use (omega arith) .head in
+        by (eqb (phase g) 2)
+        (λ e. let q = eqb-true (phase g) 2 e in let a = passes-early g (omega arith) in let f = hd .locking q in omega arith)
+        (λ e. let d : phase g ≢ 2 = eqb-false _ _ e in by (eqb (phase g) 3)
+        (λ y. let q = eqb-true (phase g) 3 y in let a = passes-three g q in omega arith)
+        (λ y. let n : phase g ≢ 3 = eqb-false _ _ y in let a = passes-four g (omega arith) in omega arith))
+
+    late-work : ltb 1 (phase (row (t .seats) s)) ≡ leb 1 (made (tally s (seen z)))
+    late-work =
+        same-test _ _
+        (λ e. let a = passes-past (ltb-true 1 (phase g) e) in let m = made-is t z s low in le-leb 1 (made (tally s (seen z))) (omega arith))
+        (λ e. lt-ltb 1 (phase g) (made-past t z s low (leb-true 1 (made (tally s (seen z))) e)))
+
+    pub late-leave : ltb 3 (phase (row (t .seats) s)) ≡ tally s (seen z) .isSealed
+    late-leave =
+        let p = phase-in in
+        same-test _ (eqb (phase g) 4)
+        (λ e. let a = ltb-true 3 (phase g) e in eq-eqb (phase g) 4 (omega arith))
+        (λ e. let a = eqb-true (phase g) 4 e in lt-ltb 3 (phase g) (omega arith))
+        ∙ ap (λ (k : Tally). k .isSealed) (sym (seat-is s))
+
+    pub never-late : ltb 4 (phase (row (t .seats) s)) ≡ false
+    never-late = le-ltb 4 (phase g) phase-in
+
+  -- READ AND WRITE, once the seat is in order
+  held-is : (x : ℕ) → x < length (t .words) → isHeld (known z) x ≡ isLocked (getD (t .words) x 0)
+  held-is x l =
+      ap (λ (p : ℕ → Bool). any p seatCount) (λ i j. seat-is j i .locked x)
+      ∙ any-count (λ j. locks (row (t .seats) j) x) seatCount _ (k .held-once x l)
+
+  read-exact : (s x : ℕ) → s < seatCount → x < length (t .words) → Exactly (readIn t s x .answer) (readDue (known z) s x)
+  unfolding readIn firstRead readDue
+  read-exact s x low inside =
+      let g : List ℕ = row (t .seats) s in
+      rw (held-is x inside, ← reads-are t z s low, seat-is s)
+      (by (ltb (writeOf g x) (writes g)) (λ e. rw (e, sym (written-is g x) ∙ e) (given _ (λ q. omega arith)))
+      (λ e0. rw (e0, sym (written-is g x) ∙ e0) (by (ltb (readOf g x) (reads g)) (λ e. rw (e, sym (read-is g x) ∙ e) (given _ (λ q. omega arith)))
+      (λ e1. rw (e1, sym (read-is g x) ∙ e1) (by (leb mostReads (reads g)) (λ e. rw e (refusing 8 (omega arith)))
+      (λ e2. rw e2 (by (isLocked (getD (t .words) x 0)) (λ e. rw e (refusing 10 (omega arith))) (λ e. rw e (given _ (λ q. omega arith))))))))))
+
+  write-exact : (s x v : ℕ) → s < seatCount → Exactly (writeIn t s x v .answer) (writeDue (known z) s x)
+  unfolding writeIn writeDue
+  write-exact s x v low =
+      let g : List ℕ = row (t .seats) s in
+      rw (← writes-are t z s low, seat-is s)
+      (by (ltb (writeOf g x) (writes g)) (λ e. rw (e, sym (written-is g x) ∙ e) (given _ (λ q. omega arith)))
+      (λ e. rw (e, sym (written-is g x) ∙ e) (by (leb mostWrites (writes g)) (λ q. rw q (refusing 9 (omega arith))) (λ q. rw q (given _ (λ y. omega arith))))))
+
+  -- OPEN
+  claims-are : claims (t .seats) ≡ claimed (known z)
+  unfolding claims claim
+  claims-are =
+      sum-same (λ o. max (has (known z) o) (share (known z .plan) o)) (claim (t .seats)) owners
+      (λ o l. let a = held-seen t z o in let b : share (t .seats) o ≡ share (known z .plan) o = plan-kept t z (shareAt o) (omega arith) in omega arith)
+
+  open-is : (o : ℕ) → openRefusal t o ≡ openDue (known z) o
+  unfolding openDue crowded
+  open-is o =
+      by (leb owners o)
+      (λ e. open-no-owner t k o (leb-true owners o e) ∙ rw e refl)
+      (λ e. let low = leb-false owners o e in
+      rw (open-refusal t k o low, e, held-seen t z o, claims-are, plan-kept t z (shareAt o) (omega arith), plan-kept t z (limitAt o) (omega arith)) refl)
+
+  -- SETUP, over tables whose lengths a Setup has accepted
+  setup-is : (start : ℕ) (plan : List ℕ) → setupRefusal t start plan ≡ due (known z) (Setup start plan)
+  unfolding setupRefusal due
+  setup-is start plan = rw (not-unsized t k) refl
+
+  -- ANY CALL
+  pub exact : (c : Call) → Exactly (step t c .answer) (due (known z) c)
+  unfolding step due setup openSeat read write advance abandon letGo
+  exact (Setup start plan) = of-due (setup-is start plan) (guarded-only (setupRefusal t start plan) t _ (λ e q. omega arith))
+  exact (Open o) = of-due (open-is o) (guarded-only (openRefusal t o) t _ (λ e q. omega arith))
+  exact (Read o s x) =
+      of-due (ap (λ (n : ℕ). orElse n (readDue (known z) s x)) (refusal-is o s x 1 _ (late-work s)))
+      (guarded (refusal t o s x 1) _ t (readIn t s x) (λ e. let f = fine t o s x 1 e in read-exact s x (f .seat-in) (f .item-in)))
+  exact (Write o s x v) =
+      of-due (ap (λ (n : ℕ). orElse n (writeDue (known z) s x)) (refusal-is o s x 1 _ (late-work s)))
+      (guarded (refusal t o s x 1) _ t (writeIn t s x v) (λ e. write-exact s x v (fine t o s x 1 e .seat-in)))
+  exact (Advance o s) =
+      of-due (refusal-is o s 0 4 _ (never-late s))
+      (guarded-only (refusal t o s 0 4) t (advanceIn t s)
+      (λ e. word-given (advance-word t s (used-of t k o s 0 4 (fine t o s 0 4 e)))))
+  exact (Abandon o s) =
+      of-due (refusal-is o s 0 3 _ (late-leave s))
+      (guarded-only (refusal t o s 0 3) t (letGo t s (Dropped s)) (λ e q. omega arith))
+
+-- EVERY REFUSAL, EXACTLY WHEN IT IS DUE
+pub every-refusal : (t : Tables) → EveryRefusal t
+every-refusal t z c = exactly-iff (exact t z c)

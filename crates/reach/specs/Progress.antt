@@ -1,0 +1,60 @@
+-- Statements. PROGRESS: nobody who holds a seat is kept waiting by a refusal, and what is Sealed is stored and ends.
+-- From Setup on, told from calls and answers alone.
+use Prim.Native.Nat.{ℕ, _<_}
+use mathlib.Core.Path.{_≡_}
+use mathlib.Core.Logic.{_≢_, _⊎_}
+use mathlib.Core.Bool.{Bool, true, false, cond, not, _&&_}
+use mathlib.Core.List.{List, [], _∷_, _++_}
+use lib.Dec.{eqb}
+use lib.ListN.{length, take, replicate}
+use Rattle.rules.specs.Layout.{seatCount}
+use Rattle.rules.specs.Tables.{Tables}
+use Rattle.rules.specs.Answers.{ready, sealed, stored, done, refused, kind}
+use Rattle.rules.specs.Calls.{Call, Setup, Open, Read, Write, Advance, Abandon, step, Event, history}
+use Rattle.rules.specs.declared.Answer.the-variants.{Dropped}
+use Rattle.reach.specs.Reached.{Reached, seen}
+use Rattle.reach.specs.Tally.{Tally, tally, w}
+use Rattle.reach.specs.Life.{advanced}
+
+-- SEAT s, at any time; k is what calls and answers tell of it
+pub record Progress (t : Tables) (s : ℕ) (k : Tally) : Type 0 where
+  -- an Advance of a given seat by its holder is never refused
+  pub never-refused : k .isOpen ≡ true → kind (advanced t (k .holder) s) ≢ refused
+  -- once Sealed, it is answered Stored or Done
+  pub goes-on : k .isSealed ≡ true → (kind (advanced t (k .holder) s) ≡ stored) ⊎ (kind (advanced t (k .holder) s) ≡ done)
+  -- Abandon by the holder is never refused before Sealed
+  pub may-leave : k .isOpen ≡ true → k .isSealed ≡ false → step t (Abandon (k .holder) s) .answer ≡ Dropped s
+
+abbrev pub ProgressOfEach : Tables → Type 0
+ProgressOfEach t = (z : Reached t) (s : ℕ) → s < seatCount → Progress t s (tally s (seen z))
+
+-- whether a call is owner o's Advance of seat s
+unfoldable pub isAdvance : ℕ → ℕ → Call → Bool
+isAdvance o s (Setup start plan) = false
+isAdvance o s (Open p) = false
+isAdvance o s (Read p r item) = false
+isAdvance o s (Write p r item value) = false
+isAdvance o s (Advance p r) = eqb p o && eqb r s
+isAdvance o s (Abandon p r) = false
+
+-- the words that owner o's Advances of seat s were answered with, in order
+unfoldable pub advancesOf : ℕ → ℕ → List Event → List ℕ
+advancesOf o s [] = []
+advancesOf o s (e ∷ es) = cond (isAdvance o s (e .call)) (kind (e .answer) ∷ advancesOf o s es) (advancesOf o s es)
+
+-- no Setup was answered ready
+unfoldable pub noneReady : List Event → Bool
+noneReady [] = true
+noneReady (e ∷ es) = not (eqb (kind (e .answer)) ready) && noneReady es
+
+-- the answers to a sealed transaction's last Advances: Stored for each of its writes, then Done
+abbrev pub ending : ℕ → List ℕ
+ending writes = replicate writes stored ++ (done ∷ [])
+
+-- ONCE SEALED, EXACTLY w + 1 MORE ADVANCES END IT: whatever other calls stand in between, the next w + 1 Advances by its holder are answered so, in that order
+abbrev pub EndsExactly : Tables → Type 0
+EndsExactly t =
+    (z : Reached t) (o s : ℕ) → kind (advanced t o s) ≡ sealed → (cs : List Call) →
+    let after = history (step t (Advance o s) .tables) cs in
+    let last = ending (w (tally s (seen z))) in
+    noneReady after ≡ true → take (length last) (advancesOf o s after) ≡ take (length (advancesOf o s after)) last
