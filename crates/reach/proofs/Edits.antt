@@ -2,8 +2,8 @@
 use Prim.Native.Nat.{ℕ, _+_, _<_, _≤_}
 use mathlib.Core.Path.{_≡_, refl, sym, ap, _∙_}
 use mathlib.Core.Logic.{_≢_, ⊎-elim}
-use mathlib.Core.Bool.{Bool, true, false, cond, not, _||_}
-use mathlib.Core.List.{List, [], _∷_, _++_}
+use mathlib.Core.Bool.{true, false, not, _||_}
+use mathlib.Core.List.{List, []}
 use native.Mathlib.Omega.{arith}
 use native.Mathlib.Nat.{eq-or-lt-of-le}
 use native.Mathlib.Numerals.{add-one}
@@ -26,10 +26,10 @@ use Rattle.rows.specs.Changed.{notedRow, noted-row, placedRow, placed-row}
 use Rattle.rows.specs.Becomes.{Becomes, becomes-put, becomes-noted, becomes-placed}
 use Rattle.reach.specs.Tally.{Tally, knows, adds}
 use Rattle.reach.specs.Life.{script}
-use Rattle.reach.proofs.Tests.{by, same-test, or-true, or-false, before-first}
+use Rattle.reach.proofs.Tests.{by, chosen, same-test, or-true, or-false, before-first}
 use Rattle.reach.proofs.Count.{one}
 use Rattle.reach.proofs.Order.{Entries, Used, locks, written, listed, readList, InOrder}
-use Rattle.reach.proofs.Listed.{listed-same, no-write-of, no-read-of, written-is, read-is}
+use Rattle.reach.proofs.Listed.{listed-same, no-write-of, no-read-of, written-is, known-written, known-read, unknown}
 use Rattle.reach.proofs.Named.{named-yes, named-has, named-alike, locks-none}
 use Rattle.reach.proofs.Rows.{row-used, to-early, passes-early}
 use Rattle.reach.proofs.Books.{held-less}
@@ -96,7 +96,7 @@ record Entered (y : ℕ) (g h : List ℕ) (a : Answer) : Type 0 where
 -- the value of a record that has an entry
 value-known : (y : ℕ) (g : List ℕ) (v : ℕ) → knows (tallyOf g) y ≡ true → Entered y g g (Value v)
 unfolding adds
-value-known y g v h = record { wrote = λ x. refl; read = sym (ap (λ (b : Bool). cond b (readList g) (readList g ++ (y ∷ []))) h) }
+value-known y g v h = record { wrote = λ x. refl; read = sym (chosen (knows (tallyOf g) y) _ _ h) }
 
 -- the value of a record that has none, with a new read entry for it
 value-new : (y : ℕ) (g h : List ℕ) (v : ℕ) → knows (tallyOf g) y ≡ false → reads h ≡ reads g + 1 → writes h ≡ writes g →
@@ -256,13 +256,13 @@ module _ (t : Tables) (s y : ℕ) (k : InOrder t) (u : Used (length (t .words)) 
   pub read-ok : y < length (t .words) → Step t s y (readIn t s y)
   unfolding readIn firstRead
   read-ok inside =
-      by (ltb (writeOf g y) (writes g)) (λ e. rw e (told-again _ (rw (sym (written-is g y) ∙ e) refl)))
-      (λ e0. rw e0 (by (ltb (readOf g y) (reads g)) (λ e. rw e (told-again _ (rw (sym (read-is g y) ∙ e) (or-true (written g y)))))
+      by (ltb (writeOf g y) (writes g)) (λ e. rw e (told-again _ (known-written g y e)))
+      (λ e0. rw e0 (by (ltb (readOf g y) (reads g)) (λ e. rw e (told-again _ (known-read g y e)))
       (λ e1. rw e1 (by (leb mostReads (reads g)) (λ e. rw e (refuses 8 (omega arith)))
       (λ e2. rw e2 (by (isLocked (getD (t .words) y 0)) (λ e. rw e (refuses 10 (omega arith)))
       (λ e3. rw e3 (note-ok (getD (t .values) y 0) (getD (t .words) y 0) inside refl (leb-false mostReads (reads g) e2)
       (λ i l. no-read-of g y i (ltb-false _ _ e1) l)
-      (rw (sym (written-is g y) ∙ e0) (sym (read-is g y) ∙ e1))))))))))
+      (unknown g y e0 e1)))))))))
 
   -- WRITE: a pending value replaced
   over-ok : (i x v : ℕ) → i < writes g → written g x ≡ true →

@@ -91,3 +91,13 @@ module _ (g : List ℕ) where
       (λ e. let l = ltb-true _ _ e in
       e ∙ sym (among-yes (readItem g) (reads g) (readOf g x) x l (eqb-true _ _ (first-hit (readNames g x) (reads g) l))))
       (λ e. e ∙ sym (among-no (readItem g) (reads g) x (λ i l. no-read-of x i (ltb-false _ _ e) l)))
+
+  -- so the seat knows the record where one of the two searches finds it, and else does not
+  pub known-written : (x : ℕ) → ltb (writeOf g x) (writes g) ≡ true → (written g x || among x (readList g)) ≡ true
+  known-written x e = rw (sym (written-is x) ∙ e) refl
+
+  pub known-read : (x : ℕ) → ltb (readOf g x) (reads g) ≡ true → (written g x || among x (readList g)) ≡ true
+  known-read x e = rw (sym (read-is x) ∙ e) (or-true (written g x))
+
+  pub unknown : (x : ℕ) → ltb (writeOf g x) (writes g) ≡ false → ltb (readOf g x) (reads g) ≡ false → (written g x || among x (readList g)) ≡ false
+  unknown x e f = rw (sym (written-is x) ∙ e) (sym (read-is x) ∙ f)

@@ -23,12 +23,12 @@ use Rattle.rules.specs.declared.Answer.the-variants.{Refused, Dropped}
 use Rattle.rows.specs.Search.{none-any}
 use Rattle.rows.specs.Fine.{fine}
 use Rattle.reach.specs.Reached.{Reached, seen}
-use Rattle.reach.specs.Tally.{Tally, tally, made, isOf}
+use Rattle.reach.specs.Tally.{Tally, tally, knows, made, isOf}
 use Rattle.reach.specs.Refusals.{known, orElse, has, claimed, isHeld, seatDue, readDue, writeDue, openDue, due, EveryRefusal}
-use Rattle.reach.proofs.Tests.{by, same-test, some-any}
+use Rattle.reach.proofs.Tests.{by, chosen, same-test, some-any}
 use Rattle.reach.proofs.Count.{one, sum-same, count-has, count-some}
 use Rattle.reach.proofs.Order.{locks, passes, InOrder}
-use Rattle.reach.proofs.Listed.{written-is, read-is}
+use Rattle.reach.proofs.Listed.{written-is, known-written, known-read, unknown}
 use Rattle.reach.proofs.Script.{word-given}
 use Rattle.reach.proofs.Rows.{undamaged, passes-early, passes-three, passes-four}
 use Rattle.reach.proofs.Steps.{tallyOf}
@@ -151,9 +151,11 @@ module _ (t : Tables) (z : Reached t) where
   read-exact s x low inside =
       let g : List ℕ = row (t .seats) s in
       rw (held-is x inside, ← reads-are t z s low, seat-is s)
-      (by (ltb (writeOf g x) (writes g)) (λ e. rw (e, sym (written-is g x) ∙ e) (given _ (λ q. omega arith)))
-      (λ e0. rw (e0, sym (written-is g x) ∙ e0) (by (ltb (readOf g x) (reads g)) (λ e. rw (e, sym (read-is g x) ∙ e) (given _ (λ q. omega arith)))
-      (λ e1. rw (e1, sym (read-is g x) ∙ e1) (by (leb mostReads (reads g)) (λ e. rw e (refusing 8 (omega arith)))
+      (by (ltb (writeOf g x) (writes g))
+      (λ e. rw e (of-due (sym (chosen (knows (tallyOf g) x) _ _ (known-written g x e))) (given _ (λ q. omega arith))))
+      (λ e0. rw e0 (by (ltb (readOf g x) (reads g))
+      (λ e. rw e (of-due (sym (chosen (knows (tallyOf g) x) _ _ (known-read g x e))) (given _ (λ q. omega arith))))
+      (λ e1. rw (e1, unknown g x e0 e1) (by (leb mostReads (reads g)) (λ e. rw e (refusing 8 (omega arith)))
       (λ e2. rw e2 (by (isLocked (getD (t .words) x 0)) (λ e. rw e (refusing 10 (omega arith))) (λ e. rw e (given _ (λ q. omega arith))))))))))
 
   write-exact : (s x v : ℕ) → s < seatCount → Exactly (writeIn t s x v .answer) (writeDue (known z) s x)
