@@ -1,6 +1,7 @@
 -- `text::width` meets its contract. Assumes nothing.
-use Rattle.text.proofs.Laws.{width-done, width-more, width-end}
+use Rattle.text.proofs.Laws.{width-more, width-end}
 use Rattle.text.specs.Text.{widthIn, widthOf}
+use Rattle.text.specs.Puts.{width-done}
 use native.Mathlib.Omega.{arith}
 use mathlib.Core.Path.{_≡_}
 use Prim.Native.Nat.{_+_, _≤_, _-_}
