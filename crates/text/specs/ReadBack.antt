@@ -39,7 +39,7 @@ digits-are (suc k) n = digits-join (digits-are k (n / 10)) (digit (omega arith) 
 read-join : (so : ℕ) (xs ys : List ℕ) → readOn so (xs ++ ys) ≡ readOn (readOn so xs) ys
 unfolding readOn
 read-join so [] ys = refl
-read-join so (x ∷ xs) ys = read-join (so * 10 + (x - 48)) xs ys
+read-join so (x ∷ xs) ys = read-join _ xs ys
 
 -- the last w digits of n, where it has that many
 record Shows (w n : ℕ) : Type 0 where
