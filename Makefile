@@ -4,7 +4,7 @@ HARNESS = --manifest-path harness/Cargo.toml --offline --release --quiet
 FAIR = --manifest-path harness/Cargo.toml --offline --profile bench-fair --quiet
 FEATURES = --features engine,monitor
 
-.PHONY: run test parts compare host soak bench mutants size
+.PHONY: run test promises parts compare host soak bench mutants size
 
 # One tape, as text (.txt), as hex digits (.hex) or as bytes (.tape): make run TAPE=tapes/tape-x.txt
 TAPE = tapes/tape-x.txt
@@ -17,9 +17,14 @@ run:
 	@target/bin/monitor < target/run.tape
 
 # Everything: the engine and the program beside the second program, then, last, every proof from nothing.
-test: compare host
+test: promises compare host
 	rt fmt --check
 	rt ci
+
+# Every public function promises one result; and the check that says so finds one that does not.
+promises:
+	tools/promises
+	tools/promises --selftest
 
 # What the Rust and C sides link and run.
 parts:

@@ -1,7 +1,6 @@
 // The document's word and number of every answer, for lines of text and for hosts.
 ghost use mathlib.Core.Path.{_≡_};
-ghost use Rattle.rules.specs.Answers.{kind, number};
-ghost use Rattle.answers.specs.Spelling.{spelling};
+ghost use Rattle.answers.specs.Promises.{KindIs, NumberIs, WordIs};
 use rules::Answer;
 
 // A word's letters, at the front of ten bytes, with spaces behind.
@@ -12,7 +11,7 @@ pub struct Spelled {
 
 // The number of an answer's word.
 pub fn kind_of(a: Answer) -> u64
-    ensures { λ r. ⌜ r ≡ kind a ⌝ }
+    ensures { λ r. ⌜ KindIs a r ⌝ }
 {
     match a {
         Answer::Ready(_) => 0,
@@ -33,7 +32,7 @@ pub fn kind_of(a: Answer) -> u64
 
 // The number that an answer carries.
 pub fn number_of(a: Answer) -> u64
-    ensures { λ r. ⌜ r ≡ number a ⌝ }
+    ensures { λ r. ⌜ NumberIs a r ⌝ }
 {
     match a {
         Answer::Ready(n) => n,
@@ -60,7 +59,7 @@ fn word_of(letters: [u8; 10], len: usize) -> Spelled
 
 // The word of an answer.
 pub fn spell(a: Answer) -> Spelled
-    ensures { λ r. ⌜ r ≡ spelling a ⌝ }
+    ensures { λ r. ⌜ WordIs a r ⌝ }
 {
     match a {
         Answer::Ready(_) => word_of(*b"ready     ", 5),

@@ -20,17 +20,14 @@ given-of e k n =
       tables-are = ap (λ (x : Outcome). x .tables) e;
     }
 
--- two results that satisfy a call's statement are equal
-pub record Same (word word′ carried carried′ : ℕ) (t t′ : Tables) : Type 0 where
-  pub words : word ≡ word′
-  pub numbers : carried ≡ carried′
-  pub left : t ≡ t′
-
-pub given-one : {o : Outcome} {a b m n : ℕ} {v w s v′ w′ s′ : List ℕ} → Given o a m v w s → Given o b n v′ w′ s′ →
-    Same a b m n (tables v w s) (tables v′ w′ s′)
-given-one p q =
-    record {
-      words = p .word-is ∙ sym (q .word-is);
-      numbers = p .number-is ∙ sym (q .number-is);
-      left = p .tables-are ∙ sym (q .tables-are);
-    }
+-- the statement leaves one word, one number and one content of the tables
+pub Given-one : (o : Outcome) (r q m n : ℕ) (v v′ w w′ s s′ : List ℕ) → Given o r m v w s → Given o q n v′ w′ s′ →
+    (r ≡ q) × (m ≡ n) × (v ≡ v′) × (w ≡ w′) × (s ≡ s′)
+Given-one o r q m n v v′ w w′ s s′ e f =
+    let left = e .tables-are ∙ sym (f .tables-are) in (
+      e .word-is ∙ sym (f .word-is),
+      e .number-is ∙ sym (f .number-is),
+      ap (λ (t : Tables). t .values) left,
+      ap (λ (t : Tables). t .words) left,
+      ap (λ (t : Tables). t .seats) left,
+    )

@@ -14,7 +14,10 @@ pub extern "C" fn ponsevran_setup(
     plan: &[u64; 32],
     number: &mut u64,
 ) -> u64
-    ensures { λ r. ⌜ Given (setup (tables (now (values .entry)) (now (words .entry)) (now (seats .entry))) start (now (plan .entry))) r (now (number .exit)) (now (values .entry)) (now (words .exit)) (now (seats .exit)) ⌝ }
+    ensures { λ r. ⌜
+        Given (setup (tables (now (values .entry)) (now (words .entry)) (now (seats .entry))) start (now (plan .entry)))
+        r (now (number .exit)) (now (values .entry)) (now (words .exit)) (now (seats .exit))
+        ⌝ }
 {
     let a = plan::setup(values, words, seats, start, plan);
     *number = answers::number_of(a);
@@ -29,7 +32,10 @@ pub extern "C" fn ponsevran_open(
     owner: u64,
     number: &mut u64,
 ) -> u64
-    ensures { λ r. ⌜ Given (openSeat (tables (now (values .entry)) (now (words .entry)) (now (seats .entry))) owner) r (now (number .exit)) (now (values .entry)) (now (words .entry)) (now (seats .exit)) ⌝ }
+    ensures { λ r. ⌜
+        Given (openSeat (tables (now (values .entry)) (now (words .entry)) (now (seats .entry))) owner)
+        r (now (number .exit)) (now (values .entry)) (now (words .entry)) (now (seats .exit))
+        ⌝ }
 {
     let a = plan::open(values, words, seats, owner);
     *number = answers::number_of(a);
@@ -46,7 +52,10 @@ pub extern "C" fn ponsevran_read(
     item: u64,
     number: &mut u64,
 ) -> u64
-    ensures { λ r. ⌜ Given (read (tables (now (values .entry)) (now (words .entry)) (now (seats .entry))) owner seat item) r (now (number .exit)) (now (values .entry)) (now (words .entry)) (now (seats .exit)) ⌝ }
+    ensures { λ r. ⌜
+        Given (read (tables (now (values .entry)) (now (words .entry)) (now (seats .entry))) owner seat item)
+        r (now (number .exit)) (now (values .entry)) (now (words .entry)) (now (seats .exit))
+        ⌝ }
 {
     let a = work::read(values, words, seats, owner, seat, item);
     *number = answers::number_of(a);
@@ -64,7 +73,10 @@ pub extern "C" fn ponsevran_write(
     value: u64,
     number: &mut u64,
 ) -> u64
-    ensures { λ r. ⌜ Given (write (tables (now (values .entry)) (now (words .entry)) (now (seats .entry))) owner seat item value) r (now (number .exit)) (now (values .entry)) (now (words .entry)) (now (seats .exit)) ⌝ }
+    ensures { λ r. ⌜
+        Given (write (tables (now (values .entry)) (now (words .entry)) (now (seats .entry))) owner seat item value)
+        r (now (number .exit)) (now (values .entry)) (now (words .entry)) (now (seats .exit))
+        ⌝ }
 {
     let a = work::write(values, words, seats, owner, seat, item, value);
     *number = answers::number_of(a);
@@ -80,7 +92,10 @@ pub extern "C" fn ponsevran_advance(
     seat: u64,
     number: &mut u64,
 ) -> u64
-    ensures { λ r. ⌜ Given (advance (tables (now (values .entry)) (now (words .entry)) (now (seats .entry))) owner seat) r (now (number .exit)) (now (values .exit)) (now (words .exit)) (now (seats .exit)) ⌝ }
+    ensures { λ r. ⌜
+        Given (advance (tables (now (values .entry)) (now (words .entry)) (now (seats .entry))) owner seat)
+        r (now (number .exit)) (now (values .exit)) (now (words .exit)) (now (seats .exit))
+        ⌝ }
 {
     let a = commit::advance(values, words, seats, owner, seat);
     *number = answers::number_of(a);
@@ -96,7 +111,10 @@ pub extern "C" fn ponsevran_abandon(
     seat: u64,
     number: &mut u64,
 ) -> u64
-    ensures { λ r. ⌜ Given (abandon (tables (now (values .entry)) (now (words .entry)) (now (seats .entry))) owner seat) r (now (number .exit)) (now (values .entry)) (now (words .exit)) (now (seats .exit)) ⌝ }
+    ensures { λ r. ⌜
+        Given (abandon (tables (now (values .entry)) (now (words .entry)) (now (seats .entry))) owner seat)
+        r (now (number .exit)) (now (values .entry)) (now (words .exit)) (now (seats .exit))
+        ⌝ }
 {
     let a = commit::abandon(values, words, seats, owner, seat);
     *number = answers::number_of(a);

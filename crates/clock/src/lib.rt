@@ -1,8 +1,8 @@
 // The clock word: lock, distance and write time in 64 bits. This crate alone knows the bits.
 ghost use mathlib.Core.Path.{_≡_};
 ghost use Prim.Native.Nat.{_<_, _≤_};
-ghost use mathlib.Core.Bool.{true, false};
-ghost use Rattle.clock.specs.Word.{reach, top, isLocked, distance, writeTime, readTime, partsOf, word, withLock, packed, freshAt, extendedTo};
+ghost use Rattle.clock.specs.Word.{reach, top, word};
+ghost use Rattle.clock.specs.Promises.{TopIs, LockIs, DistanceIs, WriteTimeIs, ReadTimeIs, PartsAre, PackedIs, LockedIs, UnlockedIs, FreshIs, ExtendedIs};
 
 // A word, or refusal 2 where the parts or the time are not to be had in one.
 pub enum Packed {
@@ -36,37 +36,37 @@ fn join(locked: bool, distance: u64, written: u64) -> u64
 
 // The greatest time, T.
 pub fn top() -> u64
-    ensures { λ r. ⌜ r ≡ top ⌝ }
+    ensures { λ r. ⌜ TopIs r ⌝ }
 {
     SPAN - 1
 }
 
 pub fn is_locked(w: u64) -> bool
-    ensures { λ r. ⌜ r ≡ isLocked w ⌝ }
+    ensures { λ r. ⌜ LockIs w r ⌝ }
 {
     w / LOCK == 1
 }
 
 pub fn distance(w: u64) -> u64
-    ensures { λ r. ⌜ r ≡ distance w ⌝ }
+    ensures { λ r. ⌜ DistanceIs w r ⌝ }
 {
     w / SPAN % REACH
 }
 
 pub fn write_time(w: u64) -> u64
-    ensures { λ r. ⌜ r ≡ writeTime w ⌝ }
+    ensures { λ r. ⌜ WriteTimeIs w r ⌝ }
 {
     w % SPAN
 }
 
 pub fn read_time(w: u64) -> u64
-    ensures { λ r. ⌜ r ≡ readTime w ⌝ }
+    ensures { λ r. ⌜ ReadTimeIs w r ⌝ }
 {
     write_time(w) + distance(w)
 }
 
 pub fn read_apart(w: u64) -> Parts
-    ensures { λ r. ⌜ r ≡ partsOf w ⌝ }
+    ensures { λ r. ⌜ PartsAre w r ⌝ }
 {
     Parts {
         locked: is_locked(w),
@@ -77,7 +77,7 @@ pub fn read_apart(w: u64) -> Parts
 }
 
 pub fn pack(locked: bool, distance: u64, written: u64) -> Packed
-    ensures { λ r. ⌜ r ≡ packed locked distance written ⌝ }
+    ensures { λ r. ⌜ PackedIs locked distance written r ⌝ }
 {
     if distance >= REACH {
         return Packed::Refused(2);
@@ -89,20 +89,20 @@ pub fn pack(locked: bool, distance: u64, written: u64) -> Packed
 }
 
 pub fn lock(w: u64) -> u64
-    ensures { λ r. ⌜ r ≡ withLock true w ⌝ }
+    ensures { λ r. ⌜ LockedIs w r ⌝ }
 {
     join(true, distance(w), write_time(w))
 }
 
 pub fn unlock(w: u64) -> u64
-    ensures { λ r. ⌜ r ≡ withLock false w ⌝ }
+    ensures { λ r. ⌜ UnlockedIs w r ⌝ }
 {
     join(false, distance(w), write_time(w))
 }
 
 // The unlocked word with both times t.
 pub fn fresh(t: u64) -> Packed
-    ensures { λ r. ⌜ r ≡ freshAt t ⌝ }
+    ensures { λ r. ⌜ FreshIs t r ⌝ }
 {
     if t >= SPAN {
         return Packed::Refused(2);
@@ -112,7 +112,7 @@ pub fn fresh(t: u64) -> Packed
 
 // T has a test of its own: with write time T and t = T + 1 the parts would still fit.
 pub fn extend(w: u64, t: u64) -> Packed
-    ensures { λ r. ⌜ r ≡ extendedTo w t ⌝ }
+    ensures { λ r. ⌜ ExtendedIs w t r ⌝ }
 {
     let written = write_time(w);
     if t < written {

@@ -1,3 +1,3 @@
--- What the code of Advance is stated by, beside the rules (Checks), and that a statement of Advance or Abandon leaves one result (Unique).
+-- What the code of Advance is stated by, beside the rules (Checks), and what Advance and Abandon promise (Promises).
 pub mod Checks
-pub mod Unique
+pub mod Promises

@@ -8,11 +8,13 @@ ghost use lib.ListN.{length};
 ghost use Rattle.clock.specs.Word.{top, writeTime, fresh, extended};
 ghost use Rattle.rules.specs.Layout.{mostReads, mostWrites, positionAt, row, put, time as timeOf};
 ghost use Rattle.rules.specs.Tables.{tables, after};
-ghost use Rattle.rules.specs.Advance.{released, letGo, moved, lockStep, seenTime, dueTime, timeStep, checkStep, sealStep, storeStep, doneStep, lockPhase, checkPhase, storePhase, advanceIn, advance, abandon};
+ghost use Rattle.rules.specs.Advance.{released, letGo, moved, lockStep, seenTime, dueTime, timeStep, checkStep, sealStep, storeStep, doneStep};
+ghost use Rattle.rules.specs.Advance.{lockPhase, checkPhase, storePhase, advanceIn};
 ghost use Rattle.rules.specs.declared.Answer.{Answer};
 ghost use Rattle.rules.specs.declared.Answer.the-variants.{Aborted};
 ghost use Rattle.seats.specs.Ready.{Ready};
 ghost use Rattle.commit.specs.Checks.{Checks, wordVerdict};
+ghost use Rattle.commit.specs.Promises.{AdvanceAnswered, AbandonAnswered};
 use clock::Packed;
 use rules::Answer;
 use rules::Verdict;
@@ -339,7 +341,10 @@ pub fn advance(
     owner: u64,
     seat: u64,
 ) -> Answer
-    ensures { λ r. ⌜ after r (now (values .exit)) (now (words .exit)) (now (seats .exit)) ≡ advance (tables (now (values .entry)) (now (words .entry)) (now (seats .entry))) owner seat ⌝ }
+    ensures { λ r. ⌜
+        AdvanceAnswered (now (values .entry)) (now (words .entry)) (now (seats .entry)) owner seat
+        r (now (values .exit)) (now (words .exit)) (now (seats .exit))
+        ⌝ }
 {
     let why = refusal_of(values, words, seats, owner, seat, 0, STORING);
     if why != 0 {
@@ -357,7 +362,10 @@ pub fn abandon(
     owner: u64,
     seat: u64,
 ) -> Answer
-    ensures { λ r. ⌜ after r (now (values .entry)) (now (words .exit)) (now (seats .exit)) ≡ abandon (tables (now (values .entry)) (now (words .entry)) (now (seats .entry))) owner seat ⌝ }
+    ensures { λ r. ⌜
+        AbandonAnswered (now (values .entry)) (now (words .entry)) (now (seats .entry)) owner seat
+        r (now (words .exit)) (now (seats .exit))
+        ⌝ }
 {
     let why = refusal_of(values, words, seats, owner, seat, 0, CHECKING);
     if why != 0 {

@@ -1,3 +1,3 @@
--- A call's bytes (Decode), and that each statement leaves one answer (Unique).
+-- A call's bytes (Decode), and what each public function promises (Promises).
 pub mod Decode
-pub mod Unique
+pub mod Promises

@@ -2,7 +2,9 @@
 ghost use mathlib.Core.Path.{_≡_};
 ghost use Prim.Native.Nat.{_+_, _≤_, _<_, _^_};
 ghost use lib.ListN.{length, getD};
-ghost use Rattle.frames.specs.Decode.{be16 as be16Of, be32 as be32Of, be64 as be64Of, frameOf, decoded, byKind, sized, setupSize, openSize, readSize, writeSize, seatSize};
+ghost use Rattle.frames.specs.Decode.{be16 as be16Of, be32 as be32Of, be64 as be64Of, byKind, sized};
+ghost use Rattle.frames.specs.Decode.{setupSize, openSize, readSize, writeSize, seatSize};
+ghost use Rattle.frames.specs.Promises.{FrameIs, CallIs};
 
 // What stands at the start of the rest of a tape.
 pub enum Frame {
@@ -97,7 +99,7 @@ fn be64(b: &[u8], i: usize) -> u64
 }
 
 pub fn split(t: &[u8]) -> Frame
-    ensures { λ r. ⌜ r ≡ frameOf (now (t .entry)) ⌝ }
+    ensures { λ r. ⌜ FrameIs (now (t .entry)) r ⌝ }
 {
     if 0 < t.len() {
         if t.len() < 2 {
@@ -114,7 +116,7 @@ pub fn split(t: &[u8]) -> Frame
 
 // The call that a body is, or its fault.
 pub fn decode(b: &[u8]) -> Decoded
-    ensures { λ r. ⌜ r ≡ decoded (now (b .entry)) ⌝ }
+    ensures { λ r. ⌜ CallIs (now (b .entry)) r ⌝ }
 {
     if 0 < b.len() {
         return by_kind(b, b[0]);

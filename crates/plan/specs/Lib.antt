@@ -1,3 +1,3 @@
--- What the code of Setup and Open is stated by, beside the rules (Tally), and that a statement leaves one result (Unique).
+-- What the code of Setup and Open is stated by, beside the rules (Tally), and what they promise (Promises).
 pub mod Tally
-pub mod Unique
+pub mod Promises

@@ -6,9 +6,9 @@ ghost use lib.Dec.{eqb, ltb, leb};
 ghost use lib.ListN.{length, getD};
 ghost use Rattle.rules.specs.Tests.{any};
 ghost use Rattle.rules.specs.Layout.{owners, seatCount, planWidth, seatsLength};
-ghost use Rattle.rules.specs.Tables.{tables, after};
-ghost use Rattle.rules.specs.Plan.{badPlan, overLimit, claims, laid, opened, setup, openSeat};
+ghost use Rattle.rules.specs.Plan.{badPlan, overLimit, claims, laid, opened};
 ghost use Rattle.plan.specs.Tally.{counted, lowest, Counts, Tallied, planRefusal, ownerRefusal};
+ghost use Rattle.plan.specs.Promises.{SetupAnswered, OpenAnswered};
 use clock::Packed;
 use rules::Answer;
 use seats::at;
@@ -61,7 +61,10 @@ pub fn setup(
     start: u64,
     plan: &[u64; 32],
 ) -> Answer
-    ensures { λ r. ⌜ after r (now (values .entry)) (now (words .exit)) (now (seats .exit)) ≡ setup (tables (now (values .entry)) (now (words .entry)) (now (seats .entry))) start (now (plan .entry)) ⌝ }
+    ensures { λ r. ⌜
+        SetupAnswered (now (values .entry)) (now (words .entry)) (now (seats .entry)) start (now (plan .entry))
+        r (now (words .exit)) (now (seats .exit))
+        ⌝ }
 {
     let records = words.len() as u64;
     if is_unsized(values.len() as u64, records, seats.len() as u64) {
@@ -220,7 +223,7 @@ fn open_row(seats: &mut [u64], seat: u64, owner: u64)
 
 // The lowest free seat, where the plan allows the owner one.
 pub fn open(values: &[u64], words: &[u64], seats: &mut [u64], owner: u64) -> Answer
-    ensures { λ r. ⌜ after r (now (values .entry)) (now (words .entry)) (now (seats .exit)) ≡ openSeat (tables (now (values .entry)) (now (words .entry)) (now (seats .entry))) owner ⌝ }
+    ensures { λ r. ⌜ OpenAnswered (now (values .entry)) (now (words .entry)) (now (seats .entry)) owner r (now (seats .exit)) ⌝ }
 {
     if is_unsized(values.len() as u64, words.len() as u64, seats.len() as u64) {
         return Answer::Refused(1);

@@ -2,16 +2,15 @@
 ghost use mathlib.Core.Path.{_≡_};
 ghost use mathlib.Core.List.{[], _∷_};
 ghost use mathlib.Core.Bool.{_&&_};
-ghost use Prim.Native.Nat.{_+_, _*_, min, max, _≤_};
+ghost use Prim.Native.Nat.{_+_, _*_, min, _≤_};
 ghost use lib.Dec.{eqb, ltb, leb};
-ghost use lib.ListN.{length, getD, set, replicate};
+ghost use lib.ListN.{getD};
 ghost use Rattle.rules.specs.Tests.{any, oneOf, first as firstOf};
-ghost use Rattle.rules.specs.Layout.{mostReads, mostWrites, rowWidth, rowAt, row, put, phase as phaseOf, time as timeOf};
-ghost use Rattle.rules.specs.Tables.{tables};
-ghost use Rattle.rules.specs.Refusals.{unsized, misnamed, misplaced, late, badRead, badWrite, damaged, refusal};
-ghost use Rattle.rules.specs.Plan.{freed};
-ghost use Rattle.rules.specs.Work.{readNames, writeNames};
+ghost use Rattle.rules.specs.Layout.{mostReads, mostWrites, rowWidth, rowAt, phase as phaseOf, time as timeOf};
+ghost use Rattle.rules.specs.Refusals.{misnamed, misplaced, late, badRead, badWrite, damaged};
 ghost use Rattle.seats.specs.Heads.{headOf, badHead, rowRefusal};
+ghost use Rattle.seats.specs.Promises.{PlaceIs, StoredAt, Filled, GreaterIs, RowIs, HeadIs, SeatHeadIs, RowGiven, RowFreed, ReadEntryIs, WriteEntryIs};
+ghost use Rattle.seats.specs.Promises.{UnsizedIs, RefusalIs};
 
 pub mod layout;
 
@@ -29,7 +28,7 @@ pub struct Head {
 
 // What stands at a place of a table; 0 past its end.
 pub fn at(list: &[u64], i: u64) -> u64
-    ensures { λ r. ⌜ r ≡ getD (now (list .entry)) i 0 ⌝ }
+    ensures { λ r. ⌜ PlaceIs (now (list .entry)) i r ⌝ }
 {
     let k = i as usize;
     if k < list.len() { list[k] } else { 0 }
@@ -37,7 +36,7 @@ pub fn at(list: &[u64], i: u64) -> u64
 
 // A store at a place of a table; past its end there is none.
 pub fn store(list: &mut [u64], i: u64, v: u64)
-    ensures { λ _. ⌜ now (list .exit) ≡ set (now (list .entry)) i v ⌝ }
+    ensures { λ _. ⌜ StoredAt (now (list .entry)) i v (now (list .exit)) ⌝ }
 {
     let k = i as usize;
     if k < list.len() {
@@ -47,7 +46,7 @@ pub fn store(list: &mut [u64], i: u64, v: u64)
 
 // One number throughout a table.
 pub fn fill(list: &mut [u64], v: u64)
-    ensures { λ _. ⌜ now (list .exit) ≡ replicate (length (now (list .entry))) v ⌝ }
+    ensures { λ _. ⌜ Filled (now (list .entry)) v (now (list .exit)) ⌝ }
 {
     let mut i = 0;
     while i < list.len() {
@@ -57,7 +56,7 @@ pub fn fill(list: &mut [u64], v: u64)
 }
 
 pub fn greater(a: u64, b: u64) -> u64
-    ensures { λ r. ⌜ r ≡ max a b ⌝ }
+    ensures { λ r. ⌜ GreaterIs a b r ⌝ }
 {
     if a < b { b } else { a }
 }
@@ -84,7 +83,7 @@ fn row_from(n: u64, seat: u64) -> u64
 
 // The part of the seat table that is the seat's row.
 pub fn row_of(seats: &[u64], seat: u64) -> &[u64]
-    ensures { λ r. ⌜ now r ≡ row (now (seats .entry)) seat ⌝ }
+    ensures { λ r. ⌜ RowIs (now (seats .entry)) seat (now r) ⌝ }
 {
     let n = seats.len() as u64;
     let from = row_from(n, seat);
@@ -93,7 +92,7 @@ pub fn row_of(seats: &[u64], seat: u64) -> &[u64]
 }
 
 pub fn head_of(row: &[u64]) -> Head
-    ensures { λ r. ⌜ r ≡ headOf (now (row .entry)) ⌝ }
+    ensures { λ r. ⌜ HeadIs (now (row .entry)) r ⌝ }
 {
     Head {
         phase: at(row, PHASE),
@@ -106,14 +105,14 @@ pub fn head_of(row: &[u64]) -> Head
 }
 
 pub fn head_at(seats: &[u64], seat: u64) -> Head
-    ensures { λ r. ⌜ r ≡ headOf (row (now (seats .entry)) seat) ⌝ }
+    ensures { λ r. ⌜ SeatHeadIs (now (seats .entry)) seat r ⌝ }
 {
     head_of(row_of(seats, seat))
 }
 
 // A store at a place of a seat's row.
 pub fn give(seats: &mut [u64], seat: u64, field: u64, v: u64)
-    ensures { λ _. ⌜ now (seats .exit) ≡ put (now (seats .entry)) seat field v ⌝ }
+    ensures { λ _. ⌜ RowGiven (now (seats .entry)) seat field v (now (seats .exit)) ⌝ }
 {
     let n = seats.len() as u64;
     let from = row_from(n, seat);
@@ -124,7 +123,7 @@ pub fn give(seats: &mut [u64], seat: u64, field: u64, v: u64)
 
 // A row freed: zero throughout.
 pub fn free_row(seats: &mut [u64], seat: u64)
-    ensures { λ _. ⌜ now (seats .exit) ≡ freed (now (seats .entry)) seat ⌝ }
+    ensures { λ _. ⌜ RowFreed (now (seats .entry)) seat (now (seats .exit)) ⌝ }
 {
     let n = seats.len() as u64;
     let from = row_from(n, seat);
@@ -149,21 +148,21 @@ fn find(row: &[u64], first: u64, width: u64, n: u64, item: u64) -> u64
 
 // The first of a row's n read entries, of which there are no more than 16, that names the record; their number where none does.
 pub fn read_of(row: &[u64], n: u64, item: u64) -> u64
-    ensures { λ r. ⌜ r ≡ firstOf (readNames (now (row .entry)) item) (min n mostReads) ⌝ }
+    ensures { λ r. ⌜ ReadEntryIs (now (row .entry)) n item r ⌝ }
 {
     find(row, READ_ITEM, READ_WIDTH, lesser(n, MOST_READS), item)
 }
 
 // The first of a row's n write entries, of which there are no more than 8, that names the record; their number where none does.
 pub fn write_of(row: &[u64], n: u64, item: u64) -> u64
-    ensures { λ r. ⌜ r ≡ firstOf (writeNames (now (row .entry)) item) (min n mostWrites) ⌝ }
+    ensures { λ r. ⌜ WriteEntryIs (now (row .entry)) n item r ⌝ }
 {
     find(row, WRITE_ITEM, WRITE_WIDTH, lesser(n, MOST_WRITES), item)
 }
 
 // REFUSAL 1: the tables' lengths.
 pub fn is_unsized(values: u64, words: u64, seats: u64) -> bool
-    ensures { λ r. ⌜ r ≡ unsized values words seats ⌝ }
+    ensures { λ r. ⌜ UnsizedIs values words seats r ⌝ }
 {
     if values != words {
         return true;
@@ -314,7 +313,7 @@ pub fn refusal_of(
     item: u64,
     last: u64,
 ) -> u64
-    ensures { λ r. ⌜ r ≡ refusal (tables (now (values .entry)) (now (words .entry)) (now (seats .entry))) owner seat item last ⌝ }
+    ensures { λ r. ⌜ RefusalIs (now (values .entry)) (now (words .entry)) (now (seats .entry)) owner seat item last r ⌝ }
 {
     let records = words.len() as u64;
     if is_unsized(values.len() as u64, records, seats.len() as u64) {

@@ -7,9 +7,8 @@ use mathlib.Core.Path.{_≡_, refl, ap, sym, _∙_}
 use mathlib.Core.List.{List, [], _∷_, _++_}
 use lib.ListN.{length, set, drop, getD, drop-of-length-le}
 use lib.Seq.{sets, set-comm, drop-cons}
-use borrow.Author.Tests.{lt-ltb, le-ltb}
 use Rattle.text.specs.Text.{widthIn, widthOf, digits, decimal, line, lastLine}
-use Rattle.text.specs.Puts.{sets-append, sets-at, length-digits}
+use Rattle.text.specs.Puts.{sets-append, sets-at, length-digits, width-next}
 
 -- a store past a run may go first
 pub sets-set : (l : List ℕ) (i : ℕ) (xs : List ℕ) (j y : ℕ) → i + length xs ≤ j → set (sets l i xs) j y ≡ sets (set l j y) i xs
@@ -31,20 +30,14 @@ pub sets-drop : (l : List ℕ) (at i : ℕ) (s : List ℕ) → i < length s → 
 sets-drop l at i s h = rw (add-one, drop-cons s i 0, add-suc)
 
 -- the count of digits, as the loop finds it
-pub width-done : (f n : ℕ) → n < 10 → widthIn f n ≡ 1
-unfolding widthIn
-width-done zero n h = refl
-width-done (suc f) n h = rw (lt-ltb n 10 h)
-
 pub width-end : (k n : ℕ) → 20 ≤ k → widthIn (20 - k) n ≡ 1
 unfolding widthIn
 width-end k n h = rw (sub-eq-zero-of-le h)
 
 pub width-more : (k n : ℕ) → k < 20 → 10 ≤ n → widthIn (20 - k) n ≡ 1 + widthIn (20 - (k + 1)) (n / 10)
-unfolding widthIn
 width-more k n h g =
     let e : 20 - k ≡ suc (20 - (k + 1)) = omega arith in
-    rw e (rw (le-ltb n 10 g))
+    rw e (omega (arith, width-next (20 - (k + 1)) n g))
 
 pub digits-back : (l : List ℕ) (at i n : ℕ) → 0 < i → sets (set l (at + (i - 1)) (48 + n % 10)) at (digits (i - 1) (n / 10)) ≡ sets l at (digits i n)
 digits-back l at zero n h = absurd (omega arith)

@@ -1,5 +1,7 @@
--- What a line of text is (Text), what callers may rest on (Puts), the single answers (Unique), and some computed (Cases).
+-- What a line of text is (Text), what callers may rest on (Puts), what each public function promises (Promises),
+-- that a number is read back and has one text (ReadBack), and some computed (Cases).
 pub mod Text
 pub mod Puts
-pub mod Unique
+pub mod Promises
+pub mod ReadBack
 pub mod Cases

@@ -7,8 +7,8 @@ use mathlib.Core.Path.{_≡_, refl, ap, sym, _∙_}
 use mathlib.Core.List.{List, [], _∷_, _++_}
 use lib.ListN.{length, set, length-append}
 use lib.Seq.{sets}
-use borrow.Author.Tests.{le-leb, lt-leb}
-use Rattle.text.specs.Text.{widthOf, digits, decimal, line, lastLine, putIn}
+use borrow.Author.Tests.{lt-ltb, le-ltb, le-leb, lt-leb}
+use Rattle.text.specs.Text.{widthIn, widthOf, digits, decimal, line, lastLine, putIn}
 
 -- a run in two pieces
 pub sets-append : (l : List ℕ) (i : ℕ) (xs ys : List ℕ) → sets l i (xs ++ ys) ≡ sets (sets l i xs) (i + length xs) ys
@@ -25,6 +25,16 @@ put-fits l at xs h = rw (le-leb (at + length xs) (length l) h)
 pub put-not : (l : List ℕ) (at : ℕ) (xs : List ℕ) → length l < at + length xs → l ≡ putIn l at xs
 unfolding putIn
 put-not l at xs h = rw (lt-leb (at + length xs) (length l) h)
+
+-- how many digits a number has: one, or one more than its tenth
+pub width-done : (f n : ℕ) → n < 10 → widthIn f n ≡ 1
+unfolding widthIn
+width-done zero n h = refl
+width-done (suc f) n h = rw (lt-ltb n 10 h)
+
+pub width-next : (f n : ℕ) → 10 ≤ n → widthIn (suc f) n ≡ suc (widthIn f (n / 10))
+unfolding widthIn
+width-next f n h = rw (le-ltb n 10 h) (omega arith)
 
 pub length-digits : (k n : ℕ) → length (digits k n) ≡ k
 unfolding digits

@@ -4,10 +4,11 @@ ghost use Prim.Native.Nat.{_+_, _≤_};
 ghost use lib.ListN.{length, take};
 ghost use lib.Seq.{sets};
 ghost use Rattle.text.specs.Text.{widthOf, digits, line, lastLine, Appended};
+ghost use Rattle.text.specs.Promises.{WidthIs};
 
 // How many decimal digits n has.
 pub fn width(n: u64) -> usize
-    ensures { λ r. ⌜ (r ≡ widthOf n) × (1 ≤ r) × (r ≤ 20) ⌝ }
+    ensures { λ r. ⌜ WidthIs n r ⌝ }
 {
     let mut k = 1;
     let mut rest = n;

@@ -1,2 +1,2 @@
--- That a statement of Read or Write leaves one result.
-pub mod Unique
+-- What Read and Write promise.
+pub mod Promises

@@ -6,8 +6,9 @@ ghost use lib.ListN.{length};
 ghost use Rattle.rules.specs.Tests.{first as firstOf};
 ghost use Rattle.rules.specs.Layout.{mostReads, mostWrites, rowWidth, row, writeWidth, reads as readsOf, writes as writesOf};
 ghost use Rattle.rules.specs.Tables.{tables, after};
-ghost use Rattle.rules.specs.Work.{readNoted, firstRead, readIn, read, above, slid, placed, writeIn, write};
+ghost use Rattle.rules.specs.Work.{readNoted, firstRead, readIn, above, slid, placed, writeIn};
 ghost use Rattle.seats.specs.Ready.{Ready};
+ghost use Rattle.work.specs.Promises.{ReadAnswered, WriteAnswered};
 use rules::Answer;
 use seats::Head;
 use seats::at;
@@ -90,7 +91,7 @@ pub fn read(
     seat: u64,
     item: u64,
 ) -> Answer
-    ensures { λ r. ⌜ after r (now (values .entry)) (now (words .entry)) (now (seats .exit)) ≡ read (tables (now (values .entry)) (now (words .entry)) (now (seats .entry))) owner seat item ⌝ }
+    ensures { λ r. ⌜ ReadAnswered (now (values .entry)) (now (words .entry)) (now (seats .entry)) owner seat item r (now (seats .exit)) ⌝ }
 {
     let why = refusal_of(values, words, seats, owner, seat, item, WORKING);
     if why != 0 {
@@ -170,7 +171,7 @@ pub fn write(
     item: u64,
     value: u64,
 ) -> Answer
-    ensures { λ r. ⌜ after r (now (values .entry)) (now (words .entry)) (now (seats .exit)) ≡ write (tables (now (values .entry)) (now (words .entry)) (now (seats .entry))) owner seat item value ⌝ }
+    ensures { λ r. ⌜ WriteAnswered (now (values .entry)) (now (words .entry)) (now (seats .entry)) owner seat item value r (now (seats .exit)) ⌝ }
 {
     let why = refusal_of(values, words, seats, owner, seat, item, WORKING);
     if why != 0 {

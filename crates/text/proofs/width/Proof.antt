@@ -1,6 +1,7 @@
 -- `text::width` meets its contract. Assumes nothing.
-use Rattle.text.proofs.Laws.{width-done, width-more, width-end}
+use Rattle.text.proofs.Laws.{width-more, width-end}
 use Rattle.text.specs.Text.{widthIn, widthOf}
+use Rattle.text.specs.Puts.{width-done}
 use native.Mathlib.Omega.{arith}
 use mathlib.Core.Path.{_≡_}
 use Prim.Native.Nat.{_+_, _≤_, _-_}
@@ -19,7 +20,13 @@ unfolding widthOf
 loop-holds c = search needs
 
 returns : tie.Need-returns Inv-loop μ-loop
-returns c = (omega (arith, width-done (20 - c .before .before .loop .k) (c .before .before .loop .rest) (omega arith)), search needs, search needs)
+returns c =
+    let at-loop = c .before .before .loop in
+    record {
+      is-width = omega (arith, width-done (20 - at-loop .k) (at-loop .rest) (omega arith));
+      least = search needs;
+      most = search needs;
+    }
 
 add-k : tie.Need-add-k Inv-loop μ-loop
 add-k c = search needs
@@ -31,7 +38,12 @@ loop-again : tie.Need-loop-again Inv-loop μ-loop
 loop-again c = (search needs, search needs, omega (arith, width-more (c .before .before .loop .k) (c .before .before .loop .rest) (omega arith) (omega arith)))
 
 returns-2 : tie.Need-returns-2 Inv-loop μ-loop
-returns-2 c = (omega (arith, width-end (c .before .loop .k) (c .before .loop .rest) (omega arith)), search needs, search needs)
+returns-2 c =
+    record {
+      is-width = omega (arith, width-end (c .before .loop .k) (c .before .loop .rest) (omega arith));
+      least = search needs;
+      most = search needs;
+    }
 
 pub width-spec : {M : Type 1} → statement M
 width-spec =
