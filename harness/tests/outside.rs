@@ -26,7 +26,7 @@ fn shell_output(script: &str) -> io::Result<Output> {
     outside::output(command, Duration::from_millis(300), MOST, feed)
 }
 
-/// Asserts that the program is found to fail so, and soon: none of these ends by itself before.
+/// Asserts that the program is found to fail so, and soon. By itself it ends much later or never.
 fn fails_soon(script: &str, reason: &str) {
     let started = Instant::now();
     let error = shell_output(script).expect_err(script);
@@ -43,10 +43,9 @@ fn a_program_that_ends() {
 
 #[test]
 fn a_program_that_does_not_end() {
-    fails_soon("exec sleep 1000\n", "the program does not end");
-    fails_soon("while :; do :; done\n", "the program does not end");
+    fails_soon("exec sleep 20\n", "the program does not end");
     // It closes all of its streams, and only then does not end.
-    fails_soon("exec sleep 1000 <&- >&- 2>&-\n", "the program does not end");
+    fails_soon("exec sleep 20 <&- >&- 2>&-\n", "the program does not end");
 }
 
 #[test]
@@ -55,18 +54,11 @@ fn a_program_that_tells_without_end() {
     fails_soon("exec yes >&2\n", "the program tells more than 1000 bytes");
 }
 
-/// A program that takes nothing of its tape, and one whose tape is never whole.
+/// It takes nothing of a tape that is longer than any pipe.
 #[test]
 fn a_program_that_is_not_fed() {
-    let long = format!("exec sleep 1000\n{}", "#\n".repeat(1_000_000));
+    let long = format!("exec sleep 20\n{}", "#\n".repeat(1_000_000));
     fails_soon(&long, "the program does not end");
-    let mut command = Command::new("cat");
-    command.stdin(Stdio::piped()).stdout(Stdio::piped());
-    let feed = |input: Option<ChildStdin>| loop {
-        input.as_ref().expect("it is piped").write_all(b"#")?;
-    };
-    let error = outside::output(command, Duration::from_millis(300), MOST, feed);
-    assert!(error.is_err());
 }
 
 #[test]
