@@ -65,12 +65,20 @@ pub fn told_as_fed(
 ) -> io::Result<String> {
     let mut command = Command::new(program);
     command.stdin(Stdio::piped()).stdout(Stdio::piped());
-    let feed = |input: Option<ChildStdin>| feed(&mut input.ok_or(io::ErrorKind::BrokenPipe)?);
-    let output = output(command, PATIENCE, most_lines(tape), feed)?;
+    let output = output(command, PATIENCE, most_lines(tape), |input| feed(&mut piped(input)?))?;
     if !output.status.success() {
         return Err(failed(program, output.status));
     }
     String::from_utf8(output.stdout).map_err(|error| failed(program, error))
+}
+
+/// Feeds these bytes to a program whose input is piped.
+pub fn bytes(input: &[u8]) -> impl FnOnce(Option<ChildStdin>) -> io::Result<()> + Send {
+    |stdin| piped(stdin)?.write_all(input)
+}
+
+fn piped(input: Option<ChildStdin>) -> io::Result<ChildStdin> {
+    input.ok_or_else(|| io::Error::other("the program's input is not piped"))
 }
 
 /// A tape's lines never have more bytes than this, whatever is on it.
@@ -197,7 +205,7 @@ fn ended_within(patience: Duration, child: &mut Child) -> io::Result<ExitStatus>
 pub fn peak_memory(program: &Path, tape: &[u8]) -> io::Result<u64> {
     let mut command = Command::new(program);
     let mut child = start(command.stdin(Stdio::piped()).stdout(Stdio::null()))?;
-    let mut input = child.stdin.take().ok_or(io::ErrorKind::BrokenPipe)?;
+    let mut input = piped(child.stdin.take())?;
     let fed = within(PATIENCE, &mut child, || input.write_all(tape)).flatten();
     let peak = fed.and_then(|()| peak_when_idle(&child));
     drop(input);

@@ -3,9 +3,9 @@
 
 use std::ffi::{OsStr, OsString};
 use std::fs;
-use std::io::{self, Write};
+use std::io;
 use std::path::{Path, PathBuf};
-use std::process::{ChildStdin, Command, Output, Stdio};
+use std::process::{Command, Output, Stdio};
 use std::time::{Duration, Instant};
 
 use second::answer::Answer::{self, *};
@@ -22,8 +22,7 @@ const MOST: usize = 1000;
 fn shell_output(script: &str) -> io::Result<Output> {
     let mut command = Command::new(SHELL);
     command.stdin(Stdio::piped()).stdout(Stdio::piped()).stderr(Stdio::piped());
-    let feed = |input: Option<ChildStdin>| input.expect("it is piped").write_all(script.as_bytes());
-    outside::output(command, Duration::from_millis(300), MOST, feed)
+    outside::output(command, Duration::from_millis(300), MOST, outside::bytes(script.as_bytes()))
 }
 
 /// Asserts that the program is found to fail so, and soon. By itself it ends much later or never.

@@ -180,7 +180,7 @@ fn says_unwritten(command: impl Fn() -> Command) {
     for tape in tapes_to_write() {
         let mut command = command();
         command.stdin(Stdio::piped()).stderr(Stdio::piped());
-        let feed = |input: Option<ChildStdin>| input.expect("it is piped").write_all(&tape);
+        let feed = outside::bytes(&tape);
         let output = outside::output(command, PATIENCE, most_lines(&tape), feed);
         let output = output.unwrap_or_else(|error| panic!("{error}"));
         assert_eq!(String::from_utf8_lossy(&output.stderr), UNWRITTEN, "{} bytes", tape.len());
