@@ -115,22 +115,20 @@ fn heard(
 ) -> io::Result<(Vec<u8>, Vec<u8>)> {
     thread::scope(|scope| {
         let feeder = scope.spawn(|| unless_gone(feed()));
-        let errors = scope.spawn(|| at_most(most, errors));
-        let told = at_most(most, told);
+        let errors = errors.map(|errors| scope.spawn(move || at_most(most, errors)));
+        let told = told.map(|told| at_most(most, told));
         let unread = |_| Err(io::Error::other("the errors could not be read"));
-        let errors = errors.join().unwrap_or_else(unread);
+        let errors = errors.map(|errors| errors.join().unwrap_or_else(unread));
         let unfed = |_| Err(io::Error::other("the tape could not be fed"));
         feeder.join().unwrap_or_else(unfed)?;
-        Ok((told?, errors?))
+        Ok((told.transpose()?.unwrap_or_default(), errors.transpose()?.unwrap_or_default()))
     })
 }
 
 /// All that a stream has, where it is no more than this.
-fn at_most(most: usize, stream: Option<impl Read>) -> io::Result<Vec<u8>> {
+fn at_most(most: usize, stream: impl Read) -> io::Result<Vec<u8>> {
     let mut bytes = Vec::new();
-    if let Some(stream) = stream {
-        stream.take(most as u64 + 1).read_to_end(&mut bytes)?;
-    }
+    stream.take(most as u64 + 1).read_to_end(&mut bytes)?;
     match bytes.len() <= most {
         true => Ok(bytes),
         false => Err(io::Error::other(format!("the program tells more than {most} bytes"))),
