@@ -26,6 +26,7 @@ static void advance(uint64_t owner, uint64_t seat, unsigned times) {
     }
 }
 
+/* Whether the call gives this word, and this number in `number`. */
 #define GIVES(call, word, carried) ((call) == (word) && number == (carried))
 
 /* Abandons seat 0 with a lock held: the record is unlocked again with its times, its value stays, and every row is zero. */

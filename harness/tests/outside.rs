@@ -10,54 +10,63 @@ use std::time::{Duration, Instant};
 
 use second::answer::Answer::{self, *};
 use second::lively::to_the_end;
-use second::outside;
+use second::outside::{self, PATIENCE};
 use second::random;
 use second::row::MOST_ADVANCES;
 
 /// The shell takes its input for a script: so it is a program that does as the tape says.
 const SHELL: &str = "/bin/sh";
 const MOST: usize = 1000;
+/// For programs that do not end: so they are soon found.
+const LITTLE: Duration = Duration::from_millis(300);
 
-/// What comes of a program that does as the script says, with little patience.
-fn shell_output(script: &str) -> io::Result<Output> {
+/// What comes of a program that does as the script says.
+fn shell_output(script: &str, patience: Duration) -> io::Result<Output> {
     let mut command = Command::new(SHELL);
     command.stdin(Stdio::piped()).stdout(Stdio::piped()).stderr(Stdio::piped());
-    outside::output(command, Duration::from_millis(300), MOST, outside::bytes(script.as_bytes()))
+    outside::output(command, patience, MOST, outside::bytes(script.as_bytes()))
 }
 
-/// Asserts that the program is found to fail so, and soon. By itself it ends much later or never.
-fn fails_soon(script: &str, reason: &str) {
+/// Asserts that the program is found not to end, and soon. By itself it ends much later.
+fn does_not_end(script: &str) {
     let started = Instant::now();
-    let error = shell_output(script).expect_err(script);
-    assert_eq!(error.to_string(), reason, "{script}");
-    assert!(started.elapsed() < Duration::from_secs(10), "late: {script}");
+    let error = shell_output(script, LITTLE).expect_err("it does not end").to_string();
+    assert_eq!(error, "the program does not end");
+    assert!(started.elapsed() < Duration::from_secs(10), "found late");
 }
 
 #[test]
 fn a_program_that_ends() {
-    let output = shell_output("echo told; echo said >&2; exit 3").expect("it ends");
+    let output = shell_output("echo told; echo said >&2; exit 3", PATIENCE).expect("it ends");
     assert_eq!((output.stdout, output.stderr), (b"told\n".to_vec(), b"said\n".to_vec()));
     assert_eq!(output.status.code(), Some(3));
 }
 
 #[test]
 fn a_program_that_does_not_end() {
-    fails_soon("exec sleep 20\n", "the program does not end");
+    does_not_end("exec sleep 20\n");
     // It closes all of its streams, and only then does not end.
-    fails_soon("exec sleep 20 <&- >&- 2>&-\n", "the program does not end");
+    does_not_end("exec sleep 20 <&- >&- 2>&-\n");
 }
 
+/// The bound is met exactly, and one byte more is too much, on each of the streams.
 #[test]
-fn a_program_that_tells_without_end() {
-    fails_soon("exec yes\n", "the program tells more than 1000 bytes");
-    fails_soon("exec yes >&2\n", "the program tells more than 1000 bytes");
+fn a_program_that_tells_too_much() {
+    for stream in ["1", "2"] {
+        let told = |bytes| format!("exec head -c {bytes} /dev/zero >&{stream}\n");
+        assert!(shell_output(&told(1000), PATIENCE).is_ok());
+        for bytes in [1001, 100_000_000] {
+            let error = shell_output(&told(bytes), PATIENCE).expect_err("too much").to_string();
+            assert_eq!(error, "the program tells more than 1000 bytes");
+        }
+    }
 }
 
 /// It takes nothing of a tape that is longer than any pipe.
 #[test]
 fn a_program_that_is_not_fed() {
     let long = format!("exec sleep 20\n{}", "#\n".repeat(1_000_000));
-    fails_soon(&long, "the program does not end");
+    does_not_end(&long);
 }
 
 #[test]

@@ -240,7 +240,7 @@ fn an_input_that_fails_in_mid_tape() {
         says_unread_after(&tape_x[..length]);
     }
     let long = ORDINARY.tape(30_000);
-    for length in [1_000, 60_001, 100_002] {
+    for length in [1_000, 60_001, 70_002] {
         says_unread_after(&long[..length]);
     }
 }
