@@ -28,21 +28,24 @@ promises:
 
 # What the Rust and C sides link and run.
 parts:
-	rt check monitor boundary
+	rt check monitor boundary replay
 	rt staticlib boundary
+	rt staticlib replay
 
+# Always the program that was just built and the usual seeds, whatever MONITOR and SOAK say outside.
 compare: parts
-	$(CARGO) test $(HARNESS) $(FEATURES)
+	env -u MONITOR -u SOAK $(CARGO) test $(HARNESS) $(FEATURES)
 
-# A host in C plays Tape X through the header.
+# A host in C plays Tape X through the header, and gives one more seat back. It must end well.
 host: parts
 	gcc -std=c11 -Wall -Wextra -Werror -Iinclude harness/c/host.c target/staticlib/libboundary.a -o target/host
-	target/host | diff - tapes/tape-x.lines
+	target/host > target/host.lines
+	diff target/host.lines tapes/tape-x.lines
 
 # Longer comparisons: make soak SOAK=50 takes fifty times the seeds, and shows the counts.
 SOAK = 10
 soak: parts
-	SOAK=$(SOAK) $(CARGO) test $(HARNESS) $(FEATURES) --test engine --test monitor --test streams -- --nocapture
+	env -u MONITOR SOAK='$(SOAK)' $(CARGO) test $(HARNESS) $(FEATURES) --test engine --test replay --test monitor --test streams -- --nocapture
 
 # The program beside the second program on the same tapes, as a ratio: make bench LONG=1 goes to ten million calls.
 bench: parts

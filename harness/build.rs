@@ -1,4 +1,5 @@
-//! Links the proved engine's archive, where the tests that compare with it are asked for.
+//! Links the archives of the proved engine and of the proved routine for a whole tape, where the
+//! tests that compare with them are asked for.
 
 fn main() {
     println!("cargo:rerun-if-changed=build.rs");
@@ -7,6 +8,8 @@ fn main() {
     }
     let here = std::env::var("CARGO_MANIFEST_DIR").expect("cargo names the package's folder");
     println!("cargo:rustc-link-search=native={here}/../target/staticlib");
-    println!("cargo:rustc-link-lib=static=boundary");
-    println!("cargo:rerun-if-changed={here}/../target/staticlib/libboundary.a");
+    for archive in ["boundary", "replay"] {
+        println!("cargo:rustc-link-lib=static={archive}");
+        println!("cargo:rerun-if-changed={here}/../target/staticlib/lib{archive}.a");
+    }
 }

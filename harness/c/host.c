@@ -1,4 +1,5 @@
-/* A host in C: plays Tape X through the header and prints its lines. */
+/* A host in C: plays Tape X through the header and prints its lines. Tape X has no Abandon, so one more seat is opened and given back.
+ * It ends with 0 where all is well, 1 where the lines can't be written, and 2 where the seat is not given back as it should be. */
 #include <inttypes.h>
 #include <stdio.h>
 
@@ -25,6 +26,24 @@ static void advance(uint64_t owner, uint64_t seat, unsigned times) {
     }
 }
 
+/* Whether the call gives this word, and this number in `number`. */
+#define GIVES(call, word, carried) ((call) == (word) && number == (carried))
+
+/* Abandons seat 0 with a lock held: the record is unlocked again with its times, its value stays, and every row is zero. */
+static int abandons(void) {
+    uint64_t number = 0, value = values[1], word = words[1];
+    if (!GIVES(ponsevran_open(TABLES, 1, &number), PONSEVRAN_SEAT, 0) ||
+        !GIVES(ponsevran_write(TABLES, 1, 0, 1, 9, &number), PONSEVRAN_NOTED, 1) ||
+        !GIVES(ponsevran_advance(TABLES, 1, 0, &number), PONSEVRAN_LOCKED, 1) || words[1] == word)
+        return 0;
+    if (!GIVES(ponsevran_abandon(TABLES, 1, 0, &number), PONSEVRAN_DROPPED, 0) || words[1] != word || values[1] != value)
+        return 0;
+    for (size_t place = PONSEVRAN_PLAN; place < PONSEVRAN_SEATS; place++)
+        if (seats[place] != 0)
+            return 0;
+    return 1;
+}
+
 int main(void) {
     uint64_t number, word;
     plan[0] = plan[1] = 1;
@@ -42,5 +61,7 @@ int main(void) {
     advance(1, 1, 5);
     advance(0, 0, 4);
     printf("end %u\n", calls);
-    return 0;
+    if (fflush(stdout) != 0)
+        return 1;
+    return abandons() ? 0 : 2;
 }

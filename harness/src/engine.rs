@@ -10,7 +10,8 @@ type Lent = *const u64;
 type LentMut = *mut u64;
 
 /// Declares the calls of the boundary. All take the three tables first and the answer's number
-/// last; they differ in whether values and words may change, and in the fields between.
+/// last; they differ in whether values and words may change, and in the fields between. Nothing
+/// lent to a call may overlap anything else that is lent to it, plan and number included.
 macro_rules! declare {
     ($($call:ident($values:ty, $words:ty $(, $field:ident: $type:ty)*);)*) => {
         unsafe extern "C" {
@@ -32,7 +33,8 @@ declare! {
 }
 
 /// Lends the three tables to a call of the boundary. Each is lent with its own length, and none
-/// overlaps another: that is all that the boundary asks.
+/// overlaps another, nor the number or the plan, which are made for the call: that is all that the
+/// boundary asks.
 macro_rules! lend {
     ($call:ident, $tables:expr $(, $field:expr)*) => {{
         let Flat { values, words, seats } = $tables;

@@ -1,9 +1,9 @@
 //! A judge of histories: from calls and answers alone it finds whether seats were given by the
-//! plan, whether commits took their exact number of steps, and whether a serial order exists.
+//! plan, whether commits took exactly their steps in order, and whether a serial order exists.
 
 use std::collections::BTreeMap;
 
-use crate::answer::{Answer, Refusal};
+use crate::answer::{Abort, Answer, Refusal};
 use crate::call::Call;
 use crate::plan::{OWNERS, Plan, SEATS};
 
@@ -21,8 +21,20 @@ struct Transaction {
     owner: u64,
     reads: Vec<(u64, u64)>,
     writes: BTreeMap<u64, u64>,
-    advances: u64,
-    sealed: Option<u64>,
+    advances: usize,
+    timed: Option<u64>,
+    sealed: bool,
+}
+
+/// What one Advance has to do.
+#[derive(Clone, Copy, Debug, PartialEq, Eq)]
+enum Step {
+    Lock(u64),
+    Time,
+    Check(u64),
+    Seal,
+    Store(u64),
+    End,
 }
 
 /// Watches from just after one Setup; the next Setup needs a new judge.
@@ -62,7 +74,7 @@ impl Judge {
 
     /// Whether a sealed transaction is not yet Done.
     pub fn store_is_left(&self) -> bool {
-        self.seats.iter().flatten().any(|transaction| transaction.sealed.is_some())
+        self.seats.iter().flatten().any(|transaction| transaction.sealed)
     }
 
     /// Replays the sealed transactions by time, ties by sealing, from the opening values: each
@@ -156,13 +168,11 @@ impl Judge {
         let Some(transaction) = self.open_for(owner, seat) else {
             return refused(answer);
         };
-        transaction.advances += 1;
-        if !transaction.allows(answer) {
-            return Err(format!("not lawful for {transaction:?}"));
-        }
+        transaction.advance(answer)?;
         match answer {
+            Answer::Timed(time) => transaction.timed = Some(time),
             Answer::Sealed(time) => {
-                transaction.sealed = Some(time);
+                transaction.sealed = true;
                 let sealed = transaction.seal(time);
                 self.sealed.push(sealed);
             }
@@ -177,7 +187,7 @@ impl Judge {
             return refused(answer);
         }
         let transaction = self.open_for(owner, seat).ok_or("no such seat is open")?;
-        if transaction.sealed.is_some() {
+        if transaction.sealed {
             return Err("a sealed transaction is never dropped".into());
         }
         self.clear(seat);
@@ -218,23 +228,63 @@ impl Transaction {
         self.writes.get(&record).copied().or(read.map(|&(_, value)| value))
     }
 
-    /// The number of the Advance at which it is Done.
-    fn steps(&self) -> u64 {
-        2 * self.writes.len() as u64 + self.reads.len() as u64 + 3
+    /// Every step from the first Advance to Done: 2w + r + 3 of them.
+    fn script(&self) -> Vec<Step> {
+        let written = || self.writes.keys().copied();
+        let mut script: Vec<Step> = written().map(Step::Lock).collect();
+        script.push(Step::Time);
+        script.extend(self.reads.iter().map(|&(record, _)| Step::Check(record)));
+        script.push(Step::Seal);
+        script.extend(written().map(Step::Store));
+        script.push(Step::End);
+        script
     }
 
-    /// Whether the Advance just counted may be answered so: Done at the last step and only there,
-    /// and nothing but stores between Sealed and Done.
-    fn allows(&self, answer: Answer) -> bool {
-        let last = self.advances == self.steps();
-        let sealed = self.sealed.is_some();
-        match answer {
-            Answer::Locked(_) | Answer::Timed(_) | Answer::Checked(_) => !last && !sealed,
-            Answer::Sealed(_) => !last && !sealed,
-            Answer::Stored(_) => !last && sealed,
-            Answer::Done(time) => last && self.sealed == Some(time),
-            Answer::Aborted(_) => !sealed,
+    /// Counts one Advance; an error says why it may not be answered so.
+    fn advance(&mut self, answer: Answer) -> Result<(), String> {
+        let script = self.script();
+        let step = *script.get(self.advances).ok_or("every step is taken")?;
+        self.advances += 1;
+        if self.allows(step, answer) {
+            return Ok(());
+        }
+        let (number, steps) = (self.advances, script.len());
+        Err(self.disorder(answer).unwrap_or(format!("Advance {number} of {steps} is {step:?}")))
+    }
+
+    /// Whether the step may be answered so. Each abort belongs to one kind of step.
+    fn allows(&self, step: Step, answer: Answer) -> bool {
+        match (step, answer) {
+            (Step::Lock(record), Answer::Locked(told))
+            | (Step::Check(record), Answer::Checked(told))
+            | (Step::Store(record), Answer::Stored(told)) => record == told,
+            (Step::Seal, Answer::Sealed(time)) | (Step::End, Answer::Done(time)) => {
+                self.timed == Some(time)
+            }
+            (Step::Time, Answer::Timed(_)) => true,
+            (Step::Lock(_), Answer::Aborted(abort)) => abort == Abort::LockMet as u64,
+            (Step::Time, Answer::Aborted(abort)) => abort == Abort::EndOfTime as u64,
+            (Step::Check(_), Answer::Aborted(abort)) => {
+                [Abort::Overwritten as u64, Abort::LockedByAnother as u64].contains(&abort)
+            }
             _ => false,
+        }
+    }
+
+    /// What is wrong with an answer that stands on the wrong side of Sealed.
+    fn disorder(&self, answer: Answer) -> Option<String> {
+        let word = answer.word();
+        match answer {
+            Answer::Sealed(_) if self.sealed => Some("sealed twice".into()),
+            Answer::Locked(_) | Answer::Timed(_) | Answer::Checked(_) | Answer::Aborted(_)
+                if self.sealed =>
+            {
+                Some(format!("{word} after sealed"))
+            }
+            Answer::Stored(_) | Answer::Done(_) if !self.sealed => {
+                Some(format!("{word} before sealed"))
+            }
+            _ => None,
         }
     }
 

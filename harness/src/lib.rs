@@ -22,6 +22,8 @@ pub mod outside;
 pub mod plan;
 pub mod program;
 pub mod random;
+#[cfg(feature = "engine")]
+pub mod replay;
 pub mod row;
 pub mod stored;
 pub mod tables;

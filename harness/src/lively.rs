@@ -8,6 +8,7 @@ use crate::crowd::{Crowd, Holder, sound_plan};
 use crate::plan::OWNERS;
 use crate::program::Program;
 use crate::random::Random;
+use crate::row::MOST_ADVANCES;
 use crate::tape::{self, TapeCall, VERSION};
 
 const TOP: u64 = Widths::REAL.greatest_time();
@@ -57,8 +58,8 @@ impl Recorder {
 
     /// Advances every seat until none is held, so that no record is locked.
     fn settle(&mut self) {
-        while let Some(&Holder { owner, seat, .. }) = self.crowd.holders().last() {
-            self.call(TapeCall::Advance { owner: owner as u8, seat: seat as u8 });
+        for Holder { owner, seat, .. } in self.crowd.holders().to_vec().into_iter().rev() {
+            self.commit(owner as u8, seat as u8);
         }
     }
 
@@ -79,12 +80,8 @@ impl Recorder {
 
     /// Advances a seat to its end, and gives the last answer.
     fn commit(&mut self, owner: u8, seat: u8) -> Answer {
-        loop {
-            let answer = self.call(TapeCall::Advance { owner, seat });
-            if matches!(answer, Answer::Done(_) | Answer::Aborted(_) | Answer::Refused(_)) {
-                return answer;
-            }
-        }
+        let ended = to_the_end(|| self.call(TapeCall::Advance { owner, seat }));
+        ended.unwrap_or_else(|what| panic!("seat {seat}: {what}"))
     }
 
     /// Counts the write times that an extension has moved. Only Checked can tell of one.
@@ -113,6 +110,19 @@ impl Recorder {
     pub fn tape(self) -> Vec<u8> {
         self.tape
     }
+}
+
+/// Advances a seat until it is given back, and gives the last answer. It is an error where an
+/// Advance is refused, or where more are taken than any transaction needs.
+pub fn to_the_end(mut advance: impl FnMut() -> Answer) -> Result<Answer, String> {
+    for _ in 0..MOST_ADVANCES {
+        match advance() {
+            ended @ (Answer::Done(_) | Answer::Aborted(_)) => return Ok(ended),
+            Answer::Refused(number) => return Err(format!("an Advance is refused {number}")),
+            _ => {}
+        }
+    }
+    Err(format!("not at its end after {MOST_ADVANCES} Advances"))
 }
 
 /// A tape of about so many calls. Most of them make sense.

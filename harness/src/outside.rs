@@ -1,27 +1,49 @@
 //! A tape program from outside: where the proved one is, what it tells, how much memory it takes.
 
 use std::env;
+use std::ffi::OsString;
 use std::fmt::Display;
 use std::fs;
 use std::io::{self, Read, Write};
+use std::os::unix::fs::PermissionsExt;
 use std::path::{Path, PathBuf};
-use std::process::{Child, ChildStdin, Command, ExitStatus, Stdio};
+use std::process::{Child, ChildStdin, Command, ExitStatus, Output, Stdio};
+use std::sync::mpsc;
 use std::thread;
 use std::time::{Duration, Instant};
 
 use crate::{program, stored};
 
 /// Longer than any program may take to end.
-const PATIENCE: Duration = Duration::from_secs(30);
+pub const PATIENCE: Duration = Duration::from_secs(30);
+
+/// The longest line: two numbers of 20 digits, a word of 7 letters, two blanks and a line's end.
+const LONGEST_LINE: usize = 20 + 7 + 20 + 3;
+/// The shortest call of a tape: its length, its kind and an owner.
+const SHORTEST_CALL: usize = 2 + 1 + 1;
 
 /// The proved monitor program: what `MONITOR` names, or else what the build has left.
-pub fn monitor() -> PathBuf {
-    env::var_os("MONITOR").map_or_else(|| stored::file("target/bin/monitor"), PathBuf::from)
+pub fn monitor() -> io::Result<PathBuf> {
+    monitor_named(env::var_os("MONITOR"))
 }
 
-/// Starts a program with its input piped. An error names the program.
+/// The same for a name that is given or not. A name that can't be run is an error: a comparison
+/// with nothing would say nothing.
+pub fn monitor_named(name: Option<OsString>) -> io::Result<PathBuf> {
+    let Some(name) = name else {
+        return Ok(stored::file("target/bin/monitor"));
+    };
+    let path = PathBuf::from(name);
+    let runs = |file: fs::Metadata| file.is_file() && file.permissions().mode() & 0o111 != 0;
+    match fs::metadata(&path).is_ok_and(runs) {
+        true => Ok(path),
+        false => Err(io::Error::other(format!("MONITOR names no program that can run: {path:?}"))),
+    }
+}
+
+/// Starts a program. An error names it.
 pub fn start(command: &mut Command) -> io::Result<Child> {
-    let started = command.stdin(Stdio::piped()).spawn();
+    let started = command.spawn();
     started.map_err(|error| failed(command.get_program().as_ref(), error))
 }
 
@@ -32,30 +54,106 @@ pub fn failed(program: &Path, what: impl Display) -> io::Error {
 
 /// The lines that a program gives for this tape. It must end well.
 pub fn told(program: &Path, tape: &[u8]) -> io::Result<String> {
-    told_as_fed(program, |input| input.write_all(tape))
+    told_as_fed(program, tape, |input| input.write_all(tape))
 }
 
-/// The same for a tape that comes as `feed` writes it. It is written beside the reading, so that
-/// neither side waits for the other.
+/// The same for a tape that comes as `feed` writes it.
 pub fn told_as_fed(
     program: &Path,
+    tape: &[u8],
     feed: impl FnOnce(&mut ChildStdin) -> io::Result<()> + Send,
 ) -> io::Result<String> {
-    let mut child = start(Command::new(program).stdout(Stdio::piped()))?;
-    let mut input = child.stdin.take().ok_or(io::ErrorKind::BrokenPipe)?;
-    let mut output = child.stdout.take().ok_or(io::ErrorKind::BrokenPipe)?;
-    let mut lines = String::new();
-    thread::scope(|scope| {
-        // A program that stops at a fault goes before the tape's end.
-        let feeder = scope.spawn(move || unless_gone(feed(&mut input)));
-        output.read_to_string(&mut lines)?;
-        feeder.join().unwrap_or_else(|_| Err(io::Error::other("the tape could not be fed")))
-    })?;
-    let status = child.wait()?;
-    if !status.success() {
-        return Err(failed(program, status));
+    let mut command = Command::new(program);
+    command.stdin(Stdio::piped()).stdout(Stdio::piped());
+    let output = output(command, PATIENCE, most_lines(tape), |input| feed(&mut piped(input)?))?;
+    if !output.status.success() {
+        return Err(failed(program, output.status));
     }
-    Ok(lines)
+    String::from_utf8(output.stdout).map_err(|error| failed(program, error))
+}
+
+/// Feeds these bytes to a program whose input is piped.
+pub fn bytes(input: &[u8]) -> impl FnOnce(Option<ChildStdin>) -> io::Result<()> + Send {
+    |stdin| piped(stdin)?.write_all(input)
+}
+
+fn piped(input: Option<ChildStdin>) -> io::Result<ChildStdin> {
+    input.ok_or_else(|| io::Error::other("the program's input is not piped"))
+}
+
+/// A tape's lines never have more bytes than this, whatever is on it.
+pub fn most_lines(tape: &[u8]) -> usize {
+    (tape.len() / SHORTEST_CALL + 1) * LONGEST_LINE
+}
+
+/// How a program ends, and what it tells on the streams that are piped. It is fed beside the
+/// reading, so that neither side waits for the other. One that takes longer than the patience is
+/// stopped; that is an error, and so is a stream of more than `most` bytes.
+pub fn output(
+    mut command: Command,
+    patience: Duration,
+    most: usize,
+    feed: impl FnOnce(Option<ChildStdin>) -> io::Result<()> + Send,
+) -> io::Result<Output> {
+    let mut child = start(&mut command)?;
+    // The program's own ends of its streams are now with the program alone.
+    drop(command);
+    let (input, told, errors) = (child.stdin.take(), child.stdout.take(), child.stderr.take());
+    let heard = within(patience, &mut child, || heard(most, told, errors, || feed(input)));
+    let status = ended_within(patience, &mut child)?;
+    let (stdout, stderr) = heard??;
+    Ok(Output { status, stdout, stderr })
+}
+
+/// All that two streams have while the program is fed. One that stops at a fault goes before the
+/// tape's end.
+fn heard(
+    most: usize,
+    told: Option<impl Read>,
+    errors: Option<impl Read + Send>,
+    feed: impl FnOnce() -> io::Result<()> + Send,
+) -> io::Result<(Vec<u8>, Vec<u8>)> {
+    thread::scope(|scope| {
+        let feeder = scope.spawn(|| unless_gone(feed()));
+        let errors = errors.map(|errors| scope.spawn(move || at_most(most, errors)));
+        let told = told.map(|told| at_most(most, told));
+        let unread = |_| Err(io::Error::other("the errors could not be read"));
+        let errors = errors.map(|errors| errors.join().unwrap_or_else(unread));
+        let unfed = |_| Err(io::Error::other("the tape could not be fed"));
+        feeder.join().unwrap_or_else(unfed)?;
+        Ok((told.transpose()?.unwrap_or_default(), errors.transpose()?.unwrap_or_default()))
+    })
+}
+
+/// All that a stream has, where it is no more than this.
+fn at_most(most: usize, stream: impl Read) -> io::Result<Vec<u8>> {
+    let mut bytes = Vec::new();
+    stream.take(most as u64 + 1).read_to_end(&mut bytes)?;
+    match bytes.len() <= most {
+        true => Ok(bytes),
+        false => Err(io::Error::other(format!("the program tells more than {most} bytes"))),
+    }
+}
+
+/// What some work at a program's streams gives. Where it takes longer than the patience, the
+/// program is stopped, so that the work ends, and that is an error.
+pub fn within<T: Send>(
+    patience: Duration,
+    child: &mut Child,
+    work: impl FnOnce() -> T + Send,
+) -> io::Result<T> {
+    let (tell, told) = mpsc::channel();
+    thread::scope(|scope| {
+        scope.spawn(move || tell.send(work()));
+        told.recv_timeout(patience).or_else(|_| Err(stopped(child)?))
+    })
+}
+
+/// Stops a program, and gives the error of one that does not end.
+fn stopped(child: &mut Child) -> io::Result<io::Error> {
+    child.kill()?;
+    child.wait()?;
+    Ok(io::Error::other("the program does not end"))
 }
 
 /// Asserts that the second program gives these lines for the tape. Where it does not, the first
@@ -72,34 +170,42 @@ pub fn assert_second_tells(tape: &[u8], lines: &str) {
     panic!("{} lines, not {}", lines.lines().count(), expected.lines().count());
 }
 
-/// What a write gives, where a reader that has gone is no error.
+/// What a write gives, where a reader that has gone is no error. A datagram is then refused.
 fn unless_gone(written: io::Result<()>) -> io::Result<()> {
-    match written {
-        Err(error) if error.kind() == io::ErrorKind::BrokenPipe => Ok(()),
-        other => other,
+    use io::ErrorKind::{BrokenPipe, ConnectionRefused, ConnectionReset};
+    match written.as_ref().map_err(io::Error::kind) {
+        Err(BrokenPipe | ConnectionRefused | ConnectionReset) => Ok(()),
+        _ => written,
     }
 }
 
 /// How the program has ended. One that does not end is stopped, and that is an error.
 pub fn ended(child: &mut Child) -> io::Result<ExitStatus> {
-    let deadline = Instant::now() + PATIENCE;
+    ended_within(PATIENCE, child)
+}
+
+/// The same with another patience. The pauses between the looks grow from very short ones: most
+/// programs end at once.
+fn ended_within(patience: Duration, child: &mut Child) -> io::Result<ExitStatus> {
+    let deadline = Instant::now() + patience;
+    let mut pause = Duration::from_micros(10);
     while Instant::now() < deadline {
         if let Some(status) = child.try_wait()? {
             return Ok(status);
         }
-        thread::sleep(Duration::from_millis(2));
+        thread::sleep(pause);
+        pause = (2 * pause).min(Duration::from_millis(2));
     }
-    child.kill()?;
-    child.wait()?;
-    Err(io::Error::other("the program does not end"))
+    Err(stopped(child)?)
 }
 
 /// The most memory, in kB, that a program has had once it has taken the whole tape.
 pub fn peak_memory(program: &Path, tape: &[u8]) -> io::Result<u64> {
-    let mut child = start(Command::new(program).stdout(Stdio::null()))?;
-    let mut input = child.stdin.take().ok_or(io::ErrorKind::BrokenPipe)?;
-    input.write_all(tape)?;
-    let peak = peak_when_idle(&child);
+    let mut command = Command::new(program);
+    let mut child = start(command.stdin(Stdio::piped()).stdout(Stdio::null()))?;
+    let mut input = piped(child.stdin.take())?;
+    let fed = within(PATIENCE, &mut child, || input.write_all(tape)).flatten();
+    let peak = fed.and_then(|()| peak_when_idle(&child));
     drop(input);
     ended(&mut child)?;
     peak

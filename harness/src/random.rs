@@ -1,6 +1,7 @@
 //! A small deterministic source of random numbers (splitmix), and checks over many seeds.
 
 use std::env;
+use std::ffi::OsStr;
 use std::ops::Range;
 use std::thread;
 
@@ -53,11 +54,19 @@ impl Random {
 
 /// The seeds of a test: so many, times `SOAK` where that variable is set.
 pub fn seeds(count: u64) -> Range<u64> {
-    let Some(times) = env::var_os("SOAK") else {
-        return 0..count;
+    let times = times(env::var_os("SOAK").as_deref());
+    0..count * times.unwrap_or_else(|what| panic!("{what}"))
+}
+
+/// How many times the usual seeds are asked for: once where nothing is said. None at all is an
+/// error: a comparison with no seeds would say nothing.
+pub fn times(said: Option<&OsStr>) -> Result<u64, String> {
+    let Some(said) = said else {
+        return Ok(1);
     };
-    let times: Option<u64> = times.to_str().and_then(|times| times.parse().ok());
-    0..count * times.expect("SOAK must be a number")
+    let times = said.to_str().and_then(|times| times.parse().ok());
+    let some = times.filter(|&times| times > 0);
+    some.ok_or_else(|| format!("SOAK must be a number above 0, not {said:?}"))
 }
 
 /// Runs the check once to each seed. If it fails, the seed is printed.

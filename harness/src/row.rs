@@ -5,6 +5,8 @@ use crate::plan::OWNERS;
 
 pub const READS: usize = 16;
 pub const WRITES: usize = 8;
+/// No transaction takes more Advances than one with every read and write: 2w + r + 3.
+pub const MOST_ADVANCES: usize = 2 * WRITES + READS + 3;
 
 /// The phases of a row; any other number is damage.
 pub mod phase {

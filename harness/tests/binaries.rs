@@ -1,25 +1,22 @@
 //! The two programs from outside: their streams, their messages and their exit statuses.
 
 use std::fs;
-use std::io::Write;
 use std::path::Path;
 use std::process::{Command, Output, Stdio};
 
+use second::outside::{self, PATIENCE};
+
 const SECOND: &str = env!("CARGO_BIN_EXE_second");
 const TAPE: &str = env!("CARGO_BIN_EXE_tape");
+/// More bytes than any program here tells.
+const MOST: usize = 1000;
 
 fn run(program: &str, arguments: &[&str], input: &[u8]) -> Output {
-    let mut child = Command::new(program)
-        .args(arguments)
-        .stdin(Stdio::piped())
-        .stdout(Stdio::piped())
-        .stderr(Stdio::piped())
-        .spawn()
-        .expect("the program starts");
-    let mut standard_input = child.stdin.take().expect("its input is piped");
-    standard_input.write_all(input).expect("it takes its input");
-    drop(standard_input);
-    child.wait_with_output().expect("it ends")
+    let mut command = Command::new(program);
+    command.args(arguments);
+    command.stdin(Stdio::piped()).stdout(Stdio::piped()).stderr(Stdio::piped());
+    let output = outside::output(command, PATIENCE, MOST, outside::bytes(input));
+    output.unwrap_or_else(|error| panic!("{error}"))
 }
 
 fn fails(arguments: &[&str], input: &[u8], message: &str) {

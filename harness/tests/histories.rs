@@ -8,6 +8,7 @@ use second::call::Call;
 use second::clock::{Widths, Word};
 use second::crowd::{Crowd, Holder, sound_plan};
 use second::history::Judge;
+use second::lively::to_the_end;
 use second::monitor::Monitor;
 use second::random::{Random, each_seed};
 
@@ -60,7 +61,7 @@ impl History<'_> {
         History { monitor, judge, crowd, tally }
     }
 
-    fn call(&mut self, call: Call) {
+    fn call(&mut self, call: Call) -> Answer {
         let before = self.words();
         let answer = self.monitor.answer(&call);
         self.tally.count(answer);
@@ -70,6 +71,7 @@ impl History<'_> {
         }
         self.judge.observe(&call, answer).unwrap();
         self.crowd.hear(&call, answer);
+        answer
     }
 
     fn words(&self) -> Vec<Word> {
@@ -78,8 +80,8 @@ impl History<'_> {
 
     /// Advances every seat until none is held.
     fn settle(&mut self) {
-        while let Some(&Holder { owner, seat, .. }) = self.crowd.holders().last() {
-            self.call(Call::Advance { owner, seat });
+        for Holder { owner, seat, .. } in self.crowd.holders().to_vec().into_iter().rev() {
+            to_the_end(|| self.call(Call::Advance { owner, seat })).unwrap();
         }
         assert!(!self.judge.store_is_left());
     }

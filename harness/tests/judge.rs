@@ -43,6 +43,12 @@ fn judged(history: &[Told], values: &[u64]) -> Result<(), String> {
     judge.verdict(values)
 }
 
+/// Asserts that the judge refuses the history, with this reason. The tables are as it leaves them.
+fn refuses(history: &[Told], reason: &str) {
+    let found = judged(history, &[7, 0]).expect_err(reason);
+    assert!(found.contains(reason), "'{found}' does not say '{reason}'");
+}
+
 fn both_opened(more: &[Told]) -> Vec<Told> {
     [&[open(0, Seat(0)), open(1, Seat(1))], more].concat()
 }
@@ -74,11 +80,12 @@ fn tape_x_is_serial_by_time_and_not_by_sealing() {
 #[test]
 fn made_up_times_are_found() {
     let late = tape_x().into_iter().map(|(call, answer)| match answer {
+        Timed(2) => (call, Timed(3)),
         Sealed(2) => (call, Sealed(3)),
         Done(2) => (call, Done(3)),
         _ => (call, answer),
     });
-    assert!(judged(&late.collect::<Vec<Told>>(), &[7, 0]).is_err());
+    refuses(&late.collect::<Vec<Told>>(), "should have read 7 of record 0");
 }
 
 #[test]
@@ -140,6 +147,112 @@ fn commits_of_wrong_length_are_found() {
     assert!(steps(&[Refused(4)]).is_err());
     assert!(steps(&[Timed(0), Checked(0), Sealed(0), Done(0), Refused(4)]).is_ok());
     assert!(steps(&[Timed(0), Checked(0), Sealed(0), Done(0), Timed(0)]).is_err());
+}
+
+/// Seat 0 writes 7 to record 0, which takes five Advances. They are answered so.
+fn one_write(answers: [Answer; 5]) -> Vec<Told> {
+    let steps = answers.map(|answer| advance(0, answer));
+    [&both_opened(&[write(0, 0, 7)])[..], &steps].concat()
+}
+
+/// In each of the histories that follow, the count of the steps, the time and the values are right,
+/// and only the order is not.
+#[test]
+fn the_steps_of_a_write() {
+    let lawful = one_write([Locked(0), Timed(1), Sealed(1), Stored(0), Done(1)]);
+    assert_eq!(judged(&lawful, &[7, 0]), Ok(()));
+}
+
+#[test]
+fn stored_before_sealed_is_found() {
+    let early = one_write([Locked(0), Timed(1), Stored(0), Sealed(1), Done(1)]);
+    refuses(&early, "stored before sealed");
+}
+
+#[test]
+fn locked_after_sealed_is_found() {
+    let late = one_write([Locked(0), Timed(1), Sealed(1), Locked(0), Done(1)]);
+    refuses(&late, "locked after sealed");
+}
+
+#[test]
+fn timed_after_sealed_is_found() {
+    let late = one_write([Locked(0), Timed(1), Sealed(1), Timed(1), Done(1)]);
+    refuses(&late, "timed after sealed");
+}
+
+#[test]
+fn checked_after_sealed_is_found() {
+    let late = one_write([Locked(0), Timed(1), Sealed(1), Checked(0), Done(1)]);
+    refuses(&late, "checked after sealed");
+}
+
+#[test]
+fn sealed_twice_is_found() {
+    let twice = one_write([Locked(0), Timed(1), Sealed(1), Sealed(1), Done(1)]);
+    refuses(&twice, "sealed twice");
+}
+
+#[test]
+fn an_end_before_sealed_is_found() {
+    let early = one_write([Locked(0), Timed(1), Done(1), Refused(4), Refused(4)]);
+    refuses(&early, "done before sealed");
+    let aborted = one_write([Locked(0), Timed(1), Sealed(1), Aborted(22), Refused(4)]);
+    refuses(&aborted, "aborted after sealed");
+}
+
+#[test]
+fn steps_before_sealed_out_of_order_are_found() {
+    let untimed = one_write([Locked(0), Locked(0), Sealed(1), Stored(0), Done(1)]);
+    refuses(&untimed, "Advance 2 of 5 is Time");
+    let unlocked = one_write([Timed(1), Locked(0), Sealed(1), Stored(0), Done(1)]);
+    refuses(&unlocked, "Advance 1 of 5 is Lock(0)");
+    let unchecked = one_write([Locked(0), Timed(1), Checked(0), Sealed(1), Stored(0)]);
+    refuses(&unchecked, "Advance 3 of 5 is Seal");
+}
+
+#[test]
+fn another_record_or_time_is_found() {
+    let locked = one_write([Locked(1), Timed(1), Sealed(1), Stored(0), Done(1)]);
+    refuses(&locked, "Advance 1 of 5 is Lock(0)");
+    let stored = one_write([Locked(0), Timed(1), Sealed(1), Stored(1), Done(1)]);
+    refuses(&stored, "Advance 4 of 5 is Store(0)");
+    let sealed = one_write([Locked(0), Timed(1), Sealed(2), Stored(0), Done(2)]);
+    refuses(&sealed, "Advance 3 of 5 is Seal");
+    let done = one_write([Locked(0), Timed(1), Sealed(1), Stored(0), Done(2)]);
+    refuses(&done, "Advance 5 of 5 is End");
+}
+
+/// Locks and stores go up the records, checks in order of first read.
+#[test]
+fn steps_in_the_entries_order() {
+    let calls = [read(0, 1, 0), read(0, 0, 0), write(0, 1, 0), write(0, 0, 7)];
+    let steps = |locks: [u64; 2], checks: [u64; 2], stores: [u64; 2]| {
+        let before = [locks.map(Locked), [Timed(1), Checked(checks[0])]].concat();
+        let after = [[Checked(checks[1]), Sealed(1)], stores.map(Stored)].concat();
+        let steps = [before, after, vec![Done(1)]].concat();
+        let steps = steps.into_iter().map(|answer| advance(0, answer));
+        both_opened(&calls).into_iter().chain(steps).collect::<Vec<Told>>()
+    };
+    assert_eq!(judged(&steps([0, 1], [1, 0], [0, 1]), &[7, 0]), Ok(()));
+    refuses(&steps([1, 0], [1, 0], [0, 1]), "Advance 1 of 9 is Lock(0)");
+    refuses(&steps([0, 1], [0, 1], [0, 1]), "Advance 4 of 9 is Check(1)");
+    refuses(&steps([0, 1], [1, 0], [1, 0]), "Advance 7 of 9 is Store(0)");
+}
+
+/// 21 is told of a lock, 24 of the time, 22 and 23 of a check.
+#[test]
+fn aborts_out_of_place_are_found() {
+    let begun = both_opened(&[read(0, 1, 0), write(0, 0, 7)]);
+    let steps = [Locked(0), Timed(1), Checked(1), Sealed(1)].map(|answer| advance(0, answer));
+    let lawful: [&[u64]; 4] = [&[21], &[24], &[22, 23], &[]];
+    for (taken, lawful) in lawful.into_iter().enumerate() {
+        for abort in 20..26 {
+            let history = [&begun[..], &steps[..taken], &[advance(0, Aborted(abort))]].concat();
+            let found = judged(&history, &[0, 0]);
+            assert_eq!(found.is_ok(), lawful.contains(&abort), "{abort} after {taken} steps");
+        }
+    }
 }
 
 #[test]

@@ -11,7 +11,8 @@ use second::tally::{FROM_A_TAPE, FROM_SETUP, Tally};
 const TOP: u64 = Widths::REAL.greatest_time();
 
 fn told(tape: &[u8]) -> String {
-    outside::told(&outside::monitor(), tape).unwrap_or_else(|error| panic!("{error}"))
+    let told = outside::monitor().and_then(|monitor| outside::told(&monitor, tape));
+    told.unwrap_or_else(|error| panic!("{error}"))
 }
 
 /// The lines of a tape, which both programs must give.

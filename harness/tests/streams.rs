@@ -1,25 +1,51 @@
-//! The proved monitor program at its streams: pieces, cuts, a closed output, a big tape.
+//! The proved monitor program at its streams: pieces, cuts, an input that fails, an output that is
+//! closed or full, a big tape.
 
-use std::fs;
+use std::fs::{self, File};
 use std::io::{Read, Write};
-use std::path::Path;
-use std::process::{ChildStdin, Command, Stdio};
+use std::os::fd::OwnedFd;
+use std::os::unix::net::{UnixDatagram, UnixStream};
+use std::path::{Path, PathBuf};
+use std::process::{ChildStdin, Command, Output, Stdio};
+use std::slice;
 use std::thread;
 use std::time::Duration;
 
 use second::lively;
 use second::load::ORDINARY;
-use second::outside::{self, assert_second_tells};
+use second::outside::{self, PATIENCE, assert_second_tells, most_lines};
+use second::program;
 use second::random::{Random, each_seed, seeds};
 use second::stored;
 
+/// What the program says on standard error where a read or a write fails.
+const UNREAD: &str = "monitor: the tape can't be read\n";
+const UNWRITTEN: &str = "monitor: the lines can't be written\n";
+
+fn monitor() -> PathBuf {
+    outside::monitor().unwrap_or_else(|error| panic!("{error}"))
+}
+
 fn told(tape: &[u8]) -> String {
-    outside::told(&outside::monitor(), tape).unwrap_or_else(|error| panic!("{error}"))
+    outside::told(&monitor(), tape).unwrap_or_else(|error| panic!("{error}"))
+}
+
+fn tape_x() -> Vec<u8> {
+    let stored = stored::all().unwrap_or_else(|error| panic!("{error}"));
+    stored.into_iter().find(|stored| stored.name == "tape-x").expect("Tape X").tape
+}
+
+/// How the program ends and what it tells, where `input` gives it the tape.
+fn output_from(input: impl Into<Stdio>, tape: &[u8]) -> Output {
+    let mut command = Command::new(monitor());
+    command.stdin(input).stdout(Stdio::piped()).stderr(Stdio::piped());
+    let output = outside::output(command, PATIENCE, most_lines(tape), |_| Ok(()));
+    output.unwrap_or_else(|error| panic!("{error}"))
 }
 
 /// The lines of a tape that comes in random pieces, with pauses between some of them.
 fn told_in_pieces(random: &mut Random, tape: &[u8], longest: u64) -> String {
-    let lines = outside::told_as_fed(&outside::monitor(), |input| {
+    let lines = outside::told_as_fed(&monitor(), tape, |input| {
         let mut rest = tape;
         while !rest.is_empty() {
             let length = 1 + random.below(longest) as usize;
@@ -48,6 +74,29 @@ fn a_tape_in_pieces() {
     });
 }
 
+/// One read of a datagram socket gives one datagram, whatever room there is, and an empty one is
+/// the end. With a byte in each, a program that reads no more than 100,000 times does not come to
+/// this tape's end.
+#[test]
+fn a_tape_in_more_than_100_000_parts() {
+    let tape = ORDINARY.tape(20_000);
+    assert!(tape.len() > 110_000, "only {} parts", tape.len());
+    let (ours, theirs) = UnixDatagram::pair().expect("two sockets");
+    ours.set_write_timeout(Some(PATIENCE)).expect("a patience");
+    let mut command = Command::new(monitor());
+    command.stdin(OwnedFd::from(theirs)).stdout(Stdio::piped());
+    let output = outside::output(command, PATIENCE, most_lines(&tape), |_| {
+        for byte in &tape {
+            ours.send(slice::from_ref(byte))?;
+        }
+        ours.send(&[]).map(drop)
+    });
+    let output = output.unwrap_or_else(|error| panic!("{error}"));
+    println!("{} parts", tape.len());
+    assert_second_tells(&tape, &String::from_utf8_lossy(&output.stdout));
+    assert!(output.status.success());
+}
+
 #[test]
 fn an_empty_input() {
     assert_eq!(told(&[]), "stopped 31 0\n");
@@ -55,10 +104,7 @@ fn an_empty_input() {
 
 #[test]
 fn a_cut_at_every_byte() {
-    let stored = stored::all().unwrap_or_else(|error| panic!("{error}"));
-    let tape_x = stored.into_iter().find(|stored| stored.name == "tape-x").expect("Tape X");
-    let longer = ORDINARY.tape(200);
-    for tape in [tape_x.tape, longer] {
+    for tape in [tape_x(), ORDINARY.tape(200)] {
         for length in 0..=tape.len() {
             assert_second_tells(&tape[..length], &told(&tape[..length]));
         }
@@ -78,7 +124,7 @@ fn the_longest_call() {
     }
 }
 
-/// Sends calls for as long as the program takes them.
+/// Sends calls for as long as the program takes them: until it ends or is stopped.
 fn feed_on(mut input: ChildStdin) {
     let tape = ORDINARY.tape(10_000);
     let mut sent = input.write_all(&tape);
@@ -87,23 +133,30 @@ fn feed_on(mut input: ChildStdin) {
     }
 }
 
-/// Asserts that the program ends though the reader of its output takes so many bytes and goes.
-fn ends_without_reader(command: &mut Command, taken: usize) {
-    command.stdout(Stdio::piped()).stderr(Stdio::null());
-    let mut child = outside::start(command).unwrap_or_else(|error| panic!("{error}"));
+/// What the program says on standard error, where the reader of its output takes so many bytes and
+/// goes. It must end, though its input does not.
+fn said_without_reader(mut command: Command, taken: usize) -> String {
+    command.stdin(Stdio::piped()).stdout(Stdio::piped()).stderr(Stdio::piped());
+    let mut child = outside::start(&mut command).unwrap_or_else(|error| panic!("{error}"));
     let input = child.stdin.take().expect("its input is piped");
     let feeder = thread::spawn(move || feed_on(input));
     let mut output = child.stdout.take().expect("its output is piped");
-    output.read_exact(&mut vec![0; taken]).expect("it has told so much");
-    drop(output);
-    outside::ended(&mut child).unwrap_or_else(|error| panic!("{error}"));
+    let read =
+        outside::within(PATIENCE, &mut child, move || output.read_exact(&mut vec![0; taken]));
+    let ended = outside::ended(&mut child);
     feeder.join().expect("the feeder ends with the program");
+    read.flatten().expect("it has told so much");
+    ended.unwrap_or_else(|error| panic!("{error}"));
+    let mut said = String::new();
+    let errors = child.stderr.take().expect("its errors are piped");
+    errors.take(1000).read_to_string(&mut said).expect("text");
+    said
 }
 
 #[test]
 fn an_output_that_is_closed() {
     for taken in [0, 1, 100_000] {
-        ends_without_reader(&mut Command::new(outside::monitor()), taken);
+        said_without_reader(Command::new(monitor()), taken);
     }
 }
 
@@ -112,18 +165,84 @@ fn an_output_that_is_closed() {
 fn an_output_that_is_closed_without_a_signal() {
     for taken in [0, 1, 100_000] {
         let mut deaf = Command::new("sh");
-        deaf.args(["-c", "trap '' PIPE; exec \"$0\""]).arg(outside::monitor());
-        ends_without_reader(&mut deaf, taken);
+        deaf.args(["-c", "trap '' PIPE; exec \"$0\""]).arg(monitor());
+        assert_eq!(said_without_reader(deaf, taken), UNWRITTEN, "after {taken} bytes");
     }
+}
+
+/// Tapes whose first line, whose last line, or whose lines in the middle can't be written.
+fn tapes_to_write() -> [Vec<u8>; 5] {
+    [vec![], vec![1], tape_x(), ORDINARY.tape(1000), ORDINARY.tape(100_000)]
+}
+
+/// Asserts that the program says once that its lines can't be written, for each of these tapes.
+fn says_unwritten(command: impl Fn() -> Command) {
+    for tape in tapes_to_write() {
+        let mut command = command();
+        command.stdin(Stdio::piped()).stderr(Stdio::piped());
+        let feed = outside::bytes(&tape);
+        let output = outside::output(command, PATIENCE, most_lines(&tape), feed);
+        let output = output.unwrap_or_else(|error| panic!("{error}"));
+        assert_eq!(String::from_utf8_lossy(&output.stderr), UNWRITTEN, "{} bytes", tape.len());
+    }
+}
+
+#[test]
+fn an_output_that_is_full() {
+    says_unwritten(|| {
+        let full = File::options().write(true).open("/dev/full").expect("a device that is full");
+        let mut command = Command::new(monitor());
+        command.stdout(full);
+        command
+    });
+}
+
+#[test]
+fn no_output_at_all() {
+    says_unwritten(|| {
+        let mut command = Command::new("sh");
+        command.args(["-c", "exec \"$0\" >&-"]).arg(monitor());
+        command
+    });
 }
 
 /// An input that can't be read is no end of a tape: no line is told, and the error is.
 #[test]
 fn an_input_that_cannot_be_read() {
-    let folder = fs::File::open(env!("CARGO_TARGET_TMPDIR")).expect("the folder is there");
-    let output = Command::new(outside::monitor()).stdin(folder).output().expect("it starts");
+    let folder = File::open(env!("CARGO_TARGET_TMPDIR")).expect("the folder is there");
+    let output = output_from(folder, &[]);
     assert!(output.stdout.is_empty());
-    assert_eq!(output.stderr, b"monitor: the tape can't be read\n");
+    assert_eq!(String::from_utf8_lossy(&output.stderr), UNREAD);
+}
+
+/// Asserts that the lines of the whole calls are told, no last line, and then the error, where an
+/// input gives these bytes and fails. A socket that does not wait fails once it has no more.
+fn says_unread_after(part: &[u8]) {
+    let (mut ours, theirs) = UnixStream::pair().expect("two sockets");
+    ours.set_write_timeout(Some(PATIENCE)).expect("a patience");
+    ours.write_all(part).expect("room for the part");
+    theirs.set_nonblocking(true).expect("a socket that does not wait");
+    let output = output_from(OwnedFd::from(theirs), part);
+    let lines = program::play_bytes(part).expect("memory can be read and written");
+    let lines = String::from_utf8(lines).expect("lines are text");
+    let last = lines.lines().last().map_or(0, |line| line.len() + 1);
+    let expected = &lines[..lines.len() - last];
+    let length = part.len();
+    assert!(output.stdout == expected.as_bytes(), "other lines, failing after {length} bytes");
+    assert_eq!(String::from_utf8_lossy(&output.stderr), UNREAD, "failing after {length} bytes");
+}
+
+/// The read fails at every byte of Tape X, and in the middle of tapes of one buffer and of two.
+#[test]
+fn an_input_that_fails_in_mid_tape() {
+    let tape_x = tape_x();
+    for length in 0..=tape_x.len() {
+        says_unread_after(&tape_x[..length]);
+    }
+    let long = ORDINARY.tape(30_000);
+    for length in [1_000, 60_001, 70_002] {
+        says_unread_after(&long[..length]);
+    }
 }
 
 /// A file gives as much at once as is asked for, where a pipe gives what it has.
@@ -132,8 +251,7 @@ fn a_big_tape_from_a_file() {
     let tape = ORDINARY.tape(1_000_000);
     let path = Path::new(env!("CARGO_TARGET_TMPDIR")).join("big.tape");
     fs::write(&path, &tape).expect("the tape is stored");
-    let file = fs::File::open(&path).expect("the tape is there");
-    let output = Command::new(outside::monitor()).stdin(file).output().expect("it runs");
+    let output = output_from(File::open(&path).expect("the tape is there"), &tape);
     assert!(output.status.success());
     assert_second_tells(&tape, &String::from_utf8_lossy(&output.stdout));
 }
@@ -142,7 +260,7 @@ fn a_big_tape_from_a_file() {
 #[test]
 fn memory_stays_flat() {
     let peak = |calls| {
-        let peak = outside::peak_memory(&outside::monitor(), &ORDINARY.tape(calls));
+        let peak = outside::peak_memory(&monitor(), &ORDINARY.tape(calls));
         peak.unwrap_or_else(|error| panic!("{error}"))
     };
     let (short, long) = (peak(10_000), peak(1_000_000));

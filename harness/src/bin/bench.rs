@@ -72,7 +72,7 @@ impl Bench {
     fn found() -> io::Result<Bench> {
         let here = env::current_exe()?;
         let folder = here.parent().unwrap_or(Path::new(".")).to_path_buf();
-        Ok(Bench { monitor: outside::monitor(), second: folder.join("second"), folder })
+        Ok(Bench { monitor: outside::monitor()?, second: folder.join("second"), folder })
     }
 
     /// Prints one line of the table of speeds, once both programs were found to tell the same.
