@@ -52,7 +52,7 @@ bench: parts
 	$(CARGO) build $(FAIR) --bins
 	$(CARGO) run $(FAIR) --bin bench -- $(if $(LONG),--long)
 
-# Rules edited one by one: the serial order no longer follows.
+# Rules edited one by one: a theorem no longer follows.
 mutants:
 	tools/mutants
 
