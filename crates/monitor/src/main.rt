@@ -1,12 +1,21 @@
 // Runs the tape on standard input, of any length, and prints its lines. The buffers are fixed, so memory does not grow with the tape.
 ghost use mathlib.Core.Path.{_≡_};
-ghost use Prim.Native.Nat.{_≤_};
+ghost use Prim.Native.Nat.{_≤_, _<_};
 ghost use lib.ListN.{length};
+ghost use Rattle.monitor.specs.Program.{inputLength, outputLength, Lent, Filled, Ready, Pumped, Ended};
+use flow::Flow;
 use libc::STDERR_FILENO;
 use libc::STDIN_FILENO;
 use libc::STDOUT_FILENO;
-use tape::Flow;
-use tape::Tally;
+
+// A frame has at most 65537 bytes, so one always fits.
+const INPUT: usize = 65537;
+
+// Room for the lines of a full input buffer: 13 bytes for each of its bytes, and 40.
+const OUTPUT: usize = 13 * INPUT + 40;
+
+// A proved loop has to end, and nothing says that the input does. So many turns, each of a full input buffer, keep every number below 2^62.
+const TURNS: u64 = 4611686018427387903 / 65537;
 
 // What a read came to: where the bytes then end, and whether it failed.
 struct Input {
@@ -14,133 +23,101 @@ struct Input {
     failed: bool,
 }
 
+// What goes wrong with the tape's bytes is told apart from the tape's lines.
+fn complain(line: &[u8]) {
+    io::write_all(STDERR_FILENO, line);
+}
+
 // Writes the first `end` bytes of out, and answers whether they could be written.
-fn put(out: &[u8], end: usize) -> bool {
-    if end <= out.len() {
-        return io::write_all(STDOUT_FILENO, &out[..end]);
+fn put(out: &[u8], end: usize) -> bool
+    requires { ⌜ end ≤ length (now out) ⌝ }
+{
+    if io::write_all(STDOUT_FILENO, &out[..end]) {
+        return true;
     }
+    complain(b"monitor: the lines can't be written\n");
     false
 }
 
-// An input that can't be read is no end of a tape: it gets a line of its own, apart from the tape's.
-fn complain() {
-    io::write_all(STDERR_FILENO, b"monitor: the tape can't be read\n");
-}
-
-// Reads once behind the bytes that wait.
+// Reads once behind the bytes that wait, which stay. There is room, so that no bytes are the end of the input.
 fn fill(buf: &mut [u8], waiting: usize) -> Input
-    requires { ⌜ waiting ≤ length (now buf) ⌝ }
-    ensures { λ r. ⌜ (waiting ≤ r .to) × (r .to ≤ length (now (buf .entry))) ⌝ }
+    requires { ⌜ waiting < length (now buf) ⌝ }
+    ensures { λ r. ⌜ Filled (now (buf .entry)) waiting r (now (buf .exit)) ⌝ }
 {
     let got = libc::read(STDIN_FILENO, &mut buf[waiting..]);
-    if got < 0 {
-        return Input {
-            to: waiting,
-            failed: true,
-        };
-    }
-    let n = io::count(got, buf);
-    if n <= buf.len() - waiting {
-        return Input {
-            to: waiting + n,
-            failed: false,
-        };
-    }
+    let n = io::count(got, &buf[waiting..]);
     Input {
-        to: waiting,
-        failed: true,
+        to: waiting + n,
+        failed: got < 0,
     }
 }
 
-// The same flow, and no more of it.
-fn stopped(f: Flow) -> Flow
-    ensures { λ r. ⌜ r .waiting ≡ f .waiting ⌝ }
-{
-    Flow {
-        waiting: f.waiting,
-        calls: f.calls,
-        offset: f.offset,
-        records: f.records,
-        end: 0,
-        stopped: true,
-    }
-}
-
-// Reads once, takes every whole call and writes their lines. It stops at the end of the input, with the last line, and where nothing
-// more can be read or written.
+// Takes what was read: the step is done whole.
 fn pump(
     f: Flow,
     buf: &mut [u8],
+    to: usize,
     values: &mut [u64],
     words: &mut [u64],
     seats: &mut [u64],
     out: &mut [u8],
 ) -> Flow
-    requires { ⌜ f .waiting ≤ length (now buf) ⌝ }
-    ensures { λ r. ⌜ r .waiting ≤ length (now (buf .entry)) ⌝ }
+    requires { ⌜ (Lent (now buf) (now values) (now words) (now out)) × (Ready f 1) × (f .waiting ≤ to) × (to ≤ inputLength) ⌝ }
+    ensures { λ r. ⌜ Pumped f (now (buf .entry)) to (now (values .entry)) (now (words .entry)) (now (seats .entry)) (now (out .entry))
+        r (now (buf .exit)) (now (values .exit)) (now (words .exit)) (now (seats .exit)) (now (out .exit)) ⌝ }
 {
-    let waiting = f.waiting;
-    let input = fill(buf, waiting);
-    if input.failed {
-        complain();
-        return stopped(f);
-    }
-    let to = input.to;
-    if to == waiting {
-        let end = tape::finish(out, 0, waiting == 0, f.calls, f.offset);
-        put(out, end);
-        return stopped(f);
-    }
-    let k = Tally {
-        calls: f.calls,
-        offset: f.offset,
-        records: f.records,
-    };
-    let next = tape::absorb(buf, to, k, values, words, seats, out);
-    if put(out, next.end) {
-        return next;
-    }
-    stopped(next)
+    flow::step(f, buf, to, values, words, seats, out)
 }
 
-// A proved loop has to end, and nothing says that the input does: it counts its turns down from a number that no run uses up.
-fn pump_all(
-    buf: &mut [u8],
-    values: &mut [u64],
-    words: &mut [u64],
-    seats: &mut [u64],
-    out: &mut [u8],
-) {
-    let mut f = Flow {
-        waiting: 0,
-        calls: 0,
-        offset: 1,
-        records: 0,
-        end: 0,
-        stopped: false,
-    };
-    let mut turns = u64::MAX;
+// Takes the end of the input: the last line is whole.
+fn close(f: Flow, out: &mut [u8]) -> usize
+    requires { ⌜ length (now out) ≡ outputLength ⌝ }
+    ensures { λ r. ⌜ Ended f (now (out .entry)) r (now (out .exit)) ⌝ }
+{
+    flow::finish(f, out)
+}
+
+// Reads, hands on what was read, and writes what is given, to the end of the tape.
+fn play(buf: &mut [u8], values: &mut [u64], words: &mut [u64], seats: &mut [u64], out: &mut [u8])
+    requires { ⌜ Lent (now buf) (now values) (now words) (now out) ⌝ }
+{
+    let mut f = flow::start();
+    let mut turns = TURNS;
     while turns > 0 {
-        f = pump(f, buf, values, words, seats, out);
+        let waiting = f.waiting;
+        let input = fill(buf, waiting);
+        if input.failed {
+            complain(b"monitor: the tape can't be read\n");
+            return;
+        }
+        let to = input.to;
+        if to == waiting {
+            let end = close(f, out);
+            put(out, end);
+            return;
+        }
+        f = pump(f, buf, to, values, words, seats, out);
+        if !put(out, f.end) {
+            return;
+        }
         if f.stopped {
             return;
         }
         turns -= 1;
     }
+    complain(b"monitor: the tape is too long\n");
 }
 
-// A frame has at most 65537 bytes, so one always fits.
-fn input_buffer() -> [u8; 65537]
-    ensures { λ r. ⌜ 65537 ≡ length r ⌝ }
+fn input_buffer() -> [u8; INPUT]
+    ensures { λ r. ⌜ inputLength ≡ length r ⌝ }
 {
-    [0; 65537]
+    [0; INPUT]
 }
 
-// Room for the lines of a full input buffer: 13 bytes for each of its bytes, and 40.
-fn output_buffer() -> [u8; 852021]
-    ensures { λ r. ⌜ 852021 ≡ length r ⌝ }
+fn output_buffer() -> [u8; OUTPUT]
+    ensures { λ r. ⌜ outputLength ≡ length r ⌝ }
 {
-    [0; 852021]
+    [0; OUTPUT]
 }
 
 fn main() {
@@ -149,17 +126,5 @@ fn main() {
     let mut words = [0u64; tape::RECORDS];
     let mut seats = [0u64; tape::SEATS];
     let mut out = output_buffer();
-    let mut first = [0u8; 1];
-    let got = libc::read(STDIN_FILENO, &mut first);
-    if got < 0 {
-        complain();
-        return;
-    }
-    if got == 1 && first[0] == 1 {
-        pump_all(&mut buf, &mut values, &mut words, &mut seats, &mut out);
-        return;
-    }
-    // A tape with no version byte 1, or with none at all, prints one line.
-    let end = tape::run(&first[..0], &mut out);
-    put(&out, end as usize);
+    play(&mut buf, &mut values, &mut words, &mut seats, &mut out);
 }

@@ -1,21 +1,16 @@
 -- Tables lent in part: what comes back stands before the rest, and what is lent next. Assumes nothing.
-use Prim.Native.Nat.{ℕ, _<_, _≤_}
+use Prim.Native.Nat.{ℕ}
 use mathlib.Core.Path.{_≡_, refl, ap, sym}
 use mathlib.Core.List.{List, [], _∷_, _++_}
 use lib.ListN.{take, drop, take-append-drop}
-use borrow.Author.Tests.{lt-ltb, le-ltb}
 use denote.Enum.Declared.{tagOf}
 use types.Run.{OneOf, miss}
-use Rattle.rules.specs.Layout.{mostRecords, planWidth}
-use Rattle.rules.specs.Calls as rule
-use Rattle.rules.specs.Tables.{Tables, Outcome, after, keep}
+use Rattle.rules.specs.Tables.{Tables, Outcome, after}
 use Rattle.rules.specs.declared.Answer.{Answer}
-use Rattle.rules.specs.declared.Answer.the-variants.{Refused}
 use Rattle.frames.specs.declared.Call.{Call}
 use Rattle.frames.specs.declared.Call.the-variants.{Setup, Open, Read, Write, Advance, Abandon}
 use Rattle.frames.proofs.Call.{the-type}
-use Rattle.frames.specs.Decode.{planFrom}
-use Rattle.tape.specs.Lines.{whole, lending, performed, recordsAfter}
+use Rattle.tape.specs.Lines.{whole, recordsAfter}
 
 -- a table that is only read comes back as it was
 pub unchanged : (n : ℕ) (l : List ℕ) → l ≡ take n l ++ drop n l
@@ -25,20 +20,6 @@ pub given-back : (t : Tables) (n : ℕ) {o : Outcome} {a : Answer} {v w s v′ w
     v′ ≡ v ++ drop n (t .values) → w′ ≡ w ++ drop n (t .words) → after a v′ w′ s ≡ record { answer = o .answer; tables = whole t n (o .tables) }
 given-back t n {o} {a} {v} {w} {s} e p q =
     rw (p, q) (ap (λ (x : Outcome). record { answer = x .answer; tables = whole t n (x .tables) }) e)
-
--- Setup, as the tape allows it
-module _ (records count start : ℕ) (t : Tables) (b : List ℕ) where
-  pub setup-again : 0 < records → performed records t (Setup count start) b ≡ keep t (Refused 35)
-  unfolding performed
-  setup-again h = simp (lt-ltb 0 records h)
-
-  pub setup-many : records ≤ 0 → mostRecords < count → performed records t (Setup count start) b ≡ keep t (Refused 1)
-  unfolding performed
-  setup-many h g = simp (le-ltb 0 records h, lt-ltb mostRecords count g)
-
-  pub setup-lent : records ≤ 0 → count ≤ mostRecords → performed records t (Setup count start) b ≡ lending t count (rule.Setup start (take planWidth (drop planFrom b)))
-  unfolding performed
-  setup-lent h g = simp (le-ltb 0 records h, le-ltb mostRecords count g)
 
 -- a call that is no Setup lends what was lent before
 pub lends-as-before : (c : Call) (records : ℕ) (a : Answer) → OneOf (1 ∷ 2 ∷ 3 ∷ 4 ∷ 5 ∷ []) (tagOf the-type c) → records ≡ recordsAfter records c a

@@ -5,5 +5,3 @@ pub mod Turning
 pub mod Running
 pub mod Wholes
 pub mod Moved
-pub mod Room
-pub mod Stream

@@ -1,109 +1,33 @@
 -- A run over a part of a tape, turn by turn: how `fed` goes on, sums that stop, and the text so far. Assumes nothing.
-use Prim.Native.Nat.{ℕ, zero, suc, _+_, _-_, _≤_, _<_}
+use Prim.Native.Nat.{ℕ, _+_, _-_, _≤_, _<_}
 use native.Mathlib.Omega.{arith}
 use native.Mathlib.Nat.{add-assoc, add-zero}
 use mathlib.Core.Bool.{Bool, true, false, cond}
 use mathlib.Core.Path.{_≡_, refl, ap, sym, _∙_, subst}
 use mathlib.Core.Logic.{⊎-elim, _⊎_, inl, inr}
 use mathlib.Core.List.{List, [], _++_}
-use lib.Dec.{leb, eqb}
-use lib.ListN.{length, take, drop, length-drop, length-append, drop-of-length-le}
-use lib.Seq.{length-take-le, sets, length-sets}
-use borrow.Author.Tests.{leb-true, leb-false, le-leb, eqb-true}
+use lib.Dec.{leb}
+use lib.ListN.{length, drop, length-append, drop-of-length-le}
+use lib.Seq.{sets, length-sets}
+use borrow.Author.Tests.{leb-true, leb-false, le-leb}
 use Rattle.text.specs.Text.{putIn}
 use Rattle.text.specs.Puts.{sets-at, put-fits}
 use Rattle.rules.specs.Layout.{mostRecords}
-use Rattle.rules.specs.Answers.{kind, ready}
+use Rattle.rows.specs.Fine.{cond-ind}
 use Rattle.rules.specs.Tables.{Tables}
-use Rattle.frames.specs.declared.Call.{Call}
-use Rattle.frames.specs.declared.Call.the-variants.{Setup, Open, Read, Write, Advance, Abandon}
-use Rattle.frames.specs.declared.Decoded.{Decoded}
-use Rattle.frames.specs.declared.Decoded.the-variants.{Whole, Unknown, Misfit}
-use Rattle.frames.specs.declared.Frame.{Frame}
-use Rattle.frames.specs.declared.Frame.the-variants.{Nothing, Short, Body}
 use Rattle.tape.specs.declared.Progress.{Progress}
 use Rattle.tape.specs.declared.Turn.the-variants.{Wait, Said, Stop}
-use Rattle.frames.specs.Decode.{frameOf, decoded}
-use Rattle.tape.specs.Lines.{State, performed, recordsAfter, Turned, waits, stops, says, callTurn, frameTurn, turnOf, Fed, behind, fed}
+use Rattle.tape.specs.Lines.{State, Turned, waits, stops, says, turnOf, Fed, behind, fed}
 use Rattle.tape.specs.Turns.{Taken, most, capped, Ran}
-use Rattle.tape.proofs.Lending.{setup-again, setup-many}
-use Rattle.tape.proofs.Turning.{tested, Inside, inside}
+use Rattle.tape.proofs.Turning.{put-nothing}
+use Rattle.tape.specs.Runs.{Good, good, ended, fed-waits, fed-stops, fed-says, turn-nothing}
 
 abbrev pub state : ℕ → ℕ → ℕ → Tables → State
 state calls offset records t = record { calls = calls; offset = offset; records = records; tables = t }
 
--- A TURN'S NUMBERS
--- a Setup lends at most 1024 records
-records-few : (c : Call) (b : List ℕ) (records : ℕ) (t : Tables) → records ≤ mostRecords → recordsAfter records c (performed records t c b .answer) ≤ mostRecords
-records-few (Setup count start) b records t h =
-    tested (λ (n : ℕ). n ≤ mostRecords) (eqb (kind (performed records t (Setup count start) b .answer)) ready) (λ e. given (eqb-true _ _ e) (leb count mostRecords) refl) (λ _. h)
-  where
-    refused-is : kind (performed records t (Setup count start) b .answer) ≡ ready → (n : ℕ) → kind (performed records t (Setup count start) b .answer) ≡ suc n → ⊥
-    refused-is e n k = omega arith
-
-    given : kind (performed records t (Setup count start) b .answer) ≡ ready → (x : Bool) → leb count mostRecords ≡ x → count ≤ mostRecords
-    given e true q = leb-true count mostRecords q
-    given e false q = absurd (many e (leb records 0) refl)
-      where
-        many : kind (performed records t (Setup count start) b .answer) ≡ ready → (y : Bool) → leb records 0 ≡ y → ⊥
-        many e true z = refused-is e 10 (ap (λ o. kind (o .answer)) (setup-many records count start t b (leb-true records 0 z) (leb-false count mostRecords q)))
-        many e false z = refused-is e 10 (ap (λ o. kind (o .answer)) (setup-again records count start t b (leb-false records 0 z)))
-records-few (Open o) b records t h = h
-records-few (Read o s item) b records t h = h
-records-few (Write o s item value) b records t h = h
-records-few (Advance o s) b records t h = h
-records-few (Abandon o s) b records t h = h
-
-abbrev pub Good : State → List ℕ → Turned → Type 0
-Good s t waits = Unit {0}
-Good s t (stops x) = 2 ≤ length t
-Good s t (says x used s′) =
-    (2 ≤ used) × (used ≤ length t) × (s′ .calls ≡ s .calls + 1) × (s′ .offset ≡ s .offset + used) × (s .records ≤ mostRecords → s′ .records ≤ mostRecords)
-
-good-call : (s : State) (t : List ℕ) (n : ℕ) (d : Decoded) → 2 + n ≤ length t → Good s t (callTurn s (take n (drop 2 t)) d)
-unfolding callTurn
-good-call s t n Unknown h = omega arith
-good-call s t n Misfit h = omega arith
-good-call s t n (Whole c) h =
-    let e : length (take n (drop 2 t)) ≡ n = length-take-le n (drop 2 t) (omega (arith, length-drop 2 t)) in
-    (omega arith, omega arith, refl, refl, records-few c (take n (drop 2 t)) (s .records) (s .tables))
-
-good-frame : (s : State) (t : List ℕ) (f : Frame) → Inside t f → Good s t (frameTurn s t f)
-unfolding frameTurn
-good-frame s t Nothing h = tt
-good-frame s t Short h = tt
-good-frame s t (Body n) h = good-call s t n (decoded (take n (drop 2 t))) (h .0)
-
-pub good : (s : State) (t : List ℕ) → Good s t (turnOf s t)
-unfolding turnOf
-good s t = good-frame s t (frameOf t) (inside t)
-
--- HOW A RUN GOES ON, by the turn
-abbrev pub ended : List ℕ → State → List ℕ → Bool → Fed
-ended x s t stopped = record { text = x; kept = s; left = t; stopped = stopped }
-
-pub fed-waits : (n : ℕ) (s : State) (t : List ℕ) → turnOf s t ≡ waits → fed n s t ≡ ended [] s t false
-unfolding fed
-fed-waits zero s t e = refl
-fed-waits (suc n) s t e = rw (e, fed)
-
-pub fed-stops : (n : ℕ) (s : State) (t x : List ℕ) → turnOf s t ≡ stops x → length t ≤ n → fed n s t ≡ ended x s t true
-unfolding fed
-fed-stops zero s t x e h = let g : Good s t (stops x) = subst (Good s t) e (good s t) in absurd (omega arith)
-fed-stops (suc n) s t x e h = rw (e, fed)
-
-pub fed-says : (n : ℕ) (s : State) (t x : List ℕ) (used : ℕ) (s′ : State) → turnOf s t ≡ says x used s′ → length t ≤ n → fed n s t ≡ behind x (fed (n - 1) s′ (drop used t))
-unfolding fed
-fed-says zero s t x used s′ e h = let g : Good s t (says x used s′) = subst (Good s t) e (good s t) in absurd (omega arith)
-fed-says (suc n) s t x used s′ e h = let d : suc n - 1 ≡ n = omega arith in rw (e, fed, d)
-
-pub turn-nothing : (s : State) → turnOf s [] ≡ waits
-unfolding turnOf frameTurn frameOf
-turn-nothing s = refl
-
 -- SUMS THAT STOP
 capped-cases : (a b : ℕ) → ((a + b ≤ most) × (capped a b ≡ a + b)) ⊎ ((most < a + b) × (capped a b ≡ most))
-capped-cases a b = tested (λ (n : ℕ). ((a + b ≤ most) × (n ≡ a + b)) ⊎ ((most < a + b) × (n ≡ most))) (leb (a + b) most) (λ e. inl (leb-true _ _ e, refl)) (λ e. inr (leb-false _ _ e, refl))
+capped-cases a b = cond-ind (λ (n : ℕ). ((a + b ≤ most) × (n ≡ a + b)) ⊎ ((most < a + b) × (n ≡ most))) (leb (a + b) most) (λ e. inl (leb-true _ _ e, refl)) (λ e. inr (leb-false _ _ e, refl))
 
 pub capped-small : (a b : ℕ) → a + b ≤ most → capped a b ≡ a + b
 capped-small a b h = rw (le-leb (a + b) most h)
@@ -141,7 +65,7 @@ going-start f out from = record { kept = refl; left = refl; stopped = refl; size
 
 length-put : (l : List ℕ) (at : ℕ) (x : List ℕ) → length (putIn l at x) ≡ length l
 unfolding putIn
-length-put l at x = tested (λ (m : List ℕ). length m ≡ length l) (leb (at + length x) (length l)) (λ _. length-sets l at x) (λ _. refl)
+length-put l at x = cond-ind (λ (m : List ℕ). length m ≡ length l) (leb (at + length x) (length l)) (λ _. length-sets l at x) (λ _. refl)
 
 -- one line more
 pub going-on : (whole : Fed) (out₀ : List ℕ) (from : ℕ) (x : List ℕ) (rest : Fed) (out : List ℕ) (p : ℕ) → length out₀ < most
@@ -251,4 +175,4 @@ ran-all whole part offset from out₀ n calls used records p before out short sm
     let e : drop used part ≡ [] = drop-of-length-le part {i = used} done in
     let w : turnOf (state calls (offset + used) records before) (drop used part) ≡ waits = rw e (turn-nothing (state calls (offset + used) records before)) in
     ran-waits whole part offset from out₀ n calls used records p before out before out (omega (arith, ap length e)) short small within few g
-    (rw w (record { turn = refl; tables = refl; text = Rattle.tape.proofs.Turning.put-nothing out p }))
+    (rw w (record { turn = refl; tables = refl; text = put-nothing out p }))

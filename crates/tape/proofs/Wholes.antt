@@ -7,14 +7,16 @@ use mathlib.Core.Path.{_≡_, refl, ap, sym, _∙_}
 use mathlib.Core.List.{List, [], _∷_, _++_, append-nil}
 use lib.Dec.{eqb}
 use lib.ListN.{length, drop, getD, length-drop, length-append}
-use lib.Seq.{sets, sets-eq}
+use lib.Seq.{sets}
 use borrow.Author.Tests.{eq-eqb, ne-eqb, eqb-true, eqb-false, le-leb, lt-leb}
 use Rattle.text.specs.Text.{widthIn, widthOf, digits, decimal, bytes, lastLine, putIn, Appended}
 use Rattle.text.specs.Puts.{sets-at, put-fits}
 use Rattle.rules.specs.Tables.{Tables}
 use Rattle.tape.specs.declared.Progress.{Progress}
 use Rattle.tape.specs.Lines.{Fed, fed, stopLine, endLine, lastOf, opening, callLines, linesOf}
-use Rattle.tape.specs.Turns.{most, capped, Ran, Closed, Passed, bufferOf, countOf, Written}
+use Rattle.tape.specs.Turns.{most, capped, Ran, Passed}
+use Rattle.tape.specs.Promises.{Written, Closed}
+use Rattle.tape.specs.Room.{sets-front}
 use Rattle.tape.proofs.Running.{capped-small, capped-below, capped-sum}
 
 -- THE LAST LINE, spelled out in the code
@@ -101,19 +103,15 @@ nothing-of (x ∷ l) h = absurd (omega arith)
 
 pub run-fits : (t buffer : List ℕ) (n : ℕ) (out : List ℕ) → n ≡ capped 0 (length (linesOf t)) → n ≤ length buffer → length buffer < most
     → (length (linesOf t) ≤ length buffer → out ≡ sets buffer 0 (linesOf t)) → Written t buffer n out
-unfolding countOf bufferOf
 run-fits t buffer n out e h s f =
     let k : 0 + length (linesOf t) ≡ n = capped-below 0 (length (linesOf t)) n (sym e) (omega arith) in
     let i : length (linesOf t) ≤ length buffer = omega arith in
     record {
       count = rw (le-leb (length (linesOf t)) (length buffer) i) (omega arith);
-      buffer =
-          rw (le-leb (length (linesOf t)) (length buffer) i)
-          (f i ∙ sets-eq (linesOf t) buffer 0 (omega arith) ∙ ap (λ (m : ℕ). linesOf t ++ drop m buffer) (zero-add (length (linesOf t))));
+      buffer = rw (le-leb (length (linesOf t)) (length buffer) i) (f i ∙ sets-front (linesOf t) buffer i);
     }
 
 pub run-not : (t buffer : List ℕ) (n : ℕ) → n ≡ capped 0 (length (linesOf t)) → length buffer < n → length buffer < most → Written t buffer most buffer
-unfolding countOf bufferOf
 run-not t buffer n e h s = record { count = rw (lt-leb (length (linesOf t)) (length buffer) over); buffer = rw (lt-leb (length (linesOf t)) (length buffer) over) }
   where
     small : length (linesOf t) ≤ length buffer → ⊥

@@ -1,6 +1,7 @@
--- 'The tape and its program': every byte that a tape prints (Lines), a tape that comes in parts (Parts),
--- what the functions leave of a turn and of a run (Turns), and that each statement leaves one answer (Unique).
+-- 'The tape and its program': every byte that a tape prints (Lines), what the functions leave of a turn and of a run (Turns), the statement of
+-- each public function with its one answer (Promises), and what callers may rest on (Runs, Room).
 pub mod Lines
-pub mod Parts
 pub mod Turns
-pub mod Unique
+pub mod Runs
+pub mod Promises
+pub mod Room

@@ -1,21 +1,19 @@
--- What the code's functions leave of a turn, and of a run over a part of a tape.
-use Prim.Native.Nat.{ℕ, _+_, _-_, _/_, _≤_}
+-- What the code's inner functions leave of a turn, of a run over a part of a tape, and of a pass over the whole.
+use Prim.Native.Nat.{ℕ, _+_, _≤_}
 use mathlib.Core.Path.{_≡_}
-use mathlib.Core.Bool.{Bool, true, false, cond, not}
-use mathlib.Core.List.{List, [], _∷_, _++_}
-use lib.Dec.{eqb, leb, ltb}
-use lib.ListN.{length, take, drop}
-use lib.Seq.{sets, paste}
+use mathlib.Core.Bool.{cond}
+use mathlib.Core.List.{List, []}
+use lib.Dec.{leb}
+use lib.ListN.{length, drop}
+use lib.Seq.{sets}
 use Rattle.text.specs.Text.{putIn}
-use Rattle.rules.specs.Tests.{oneOf}
 use Rattle.rules.specs.Layout.{mostRecords}
 use Rattle.rules.specs.Tables.{Tables}
-use Rattle.tape.specs.declared.Flow.{Flow}
 use Rattle.tape.specs.declared.Progress.{Progress}
 use Rattle.tape.specs.declared.Tally.{Tally}
 use Rattle.tape.specs.declared.Turn.{Turn}
 use Rattle.tape.specs.declared.Turn.the-variants.{Wait, Said, Stop}
-use Rattle.tape.specs.Lines.{State, Turned, waits, stops, says, Fed, fed, linesOf}
+use Rattle.tape.specs.Lines.{State, Turned, waits, stops, says, Fed}
 
 -- the program's state, of its tally and its tables
 abbrev pub stateOf : Tally → Tables → State
@@ -63,64 +61,7 @@ pub record Ran (f : Fed) (part : List ℕ) (offset from : ℕ) (buffer : List �
   pub tables : after ≡ f .kept .tables
   pub text : from + length (f .text) ≤ length buffer → left ≡ sets buffer from (f .text)
 
--- a text appended to a buffer at `at`, and where it then ends
-pub record Closed (before : List ℕ) (at : ℕ) (xs : List ℕ) (r : ℕ) (after : List ℕ) : Type 0 where
-  pub end : r ≡ capped at (length xs)
-  pub text : after ≡ putIn before at xs
-
 -- one pass over a tape: where its text would end, and the text where it fits whole
 pub record Passed (xs before : List ℕ) (r : ℕ) (after : List ℕ) : Type 0 where
   pub end : r ≡ capped 0 (length xs)
   pub text : length xs ≤ length before → after ≡ sets before 0 xs
-
--- the lines of a tape in a buffer: bytes after them stay; where they do not fit, all is as it was, and the answer is the greatest number
-unfoldable pub bufferOf : List ℕ → List ℕ → List ℕ
-bufferOf t buffer = cond (leb (length (linesOf t)) (length buffer)) (linesOf t ++ drop (length (linesOf t)) buffer) buffer
-
-unfoldable pub countOf : List ℕ → List ℕ → ℕ
-countOf t buffer = cond (leb (length (linesOf t)) (length buffer)) (length (linesOf t)) most
-
-pub record Written (t before : List ℕ) (r : ℕ) (after : List ℕ) : Type 0 where
-  pub count : r ≡ countOf t before
-  pub buffer : after ≡ bufferOf t before
-
--- ABSORBING A BUFFER'S FRONT. Not done where a length is wrong, where a number may pass its end, or where the lines may not have room:
--- a call of k bytes prints at most 13 k, and a last line 40
-abbrev pub farOff : ℕ
-farOff = 4611686018427387904
-
-unfoldable pub unfit : ℕ → ℕ → Tally → ℕ → ℕ → ℕ → Bool
-unfit buffer to k values words out =
-    oneOf (ltb buffer to
-    ∷ ltb farOff (k .calls)
-    ∷ ltb farOff (k .offset)
-    ∷ ltb mostRecords (k .records)
-    ∷ not (eqb values mostRecords)
-    ∷ not (eqb words mostRecords)
-    ∷ ltb out 40
-    ∷ ltb ((out - 40) / 13) to
-    ∷ [])
-
--- what is left of the first bytes stands at the buffer's front, and the lines stand at the front of the output
-pub record Took (f : Fed) (r : Flow) (front : List ℕ) (before : List ℕ) (after : Tables) (left : List ℕ) : Type 0 where
-  pub waiting : r .waiting ≡ length (f .left)
-  pub front-is : front ≡ f .left
-  pub calls : r .calls ≡ f .kept .calls
-  pub offset : r .offset ≡ f .kept .offset
-  pub records : r .records ≡ f .kept .records
-  pub few : r .records ≤ mostRecords
-  pub stopped : r .stopped ≡ f .stopped
-  pub end : r .end ≡ length (f .text)
-  pub fits : r .end ≤ length before
-  pub tables : after ≡ f .kept .tables
-  pub text : left ≡ sets before 0 (f .text)
-
--- a run that is not begun
-abbrev pub halted : Tally → Flow
-halted k = record { waiting = 0; calls = k .calls; offset = k .offset; records = k .records; end = 0; stopped = true }
-
-pub record Absorbed (bad : Bool) (to : ℕ) (k : Tally) (t : Tables) (buffer out : List ℕ) (r : Flow) (t′ : Tables) (buffer′ out′ : List ℕ) : Type 0 where
-  pub room : r .waiting ≤ to
-  pub done : bad ≡ false → Took (fed to (stateOf k t) (take to buffer)) r (take (r .waiting) buffer′) out t′ out′
-  pub moved : bad ≡ false → buffer′ ≡ paste buffer 0 (drop (to - r .waiting) buffer) (r .waiting)
-  pub refused : bad ≡ true → (r ≡ halted k) × (t′ ≡ t) × (buffer′ ≡ buffer) × (out′ ≡ out)

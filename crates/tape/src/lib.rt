@@ -9,7 +9,8 @@ ghost use Rattle.rules.specs.Tables.{tables, after};
 ghost use Rattle.frames.specs.Decode.{decoded, planFrom, setupSize};
 ghost use Rattle.tape.specs.Lines.{lineOf, performed, PlanFits, recordsAfter, callTurn, turnOf, fed, endLine, callLines, linesOf};
 ghost use Rattle.frames.specs.declared.Decoded.the-variants.{Whole};
-ghost use Rattle.tape.specs.Turns.{stateOf, Taken, capped, Ran, Closed, Passed, Written, unfit, Absorbed};
+ghost use Rattle.tape.specs.Turns.{stateOf, Taken, capped, Ran, Passed};
+ghost use Rattle.tape.specs.Promises.{Written, Closed, Unfit, Absorbed};
 use frames::Call;
 use frames::Decoded;
 use frames::Frame;
@@ -47,9 +48,8 @@ pub struct Progress {
     pub stopped: bool,
 }
 
-// What is kept from one part of a tape to the next: the bytes that wait at the buffer's front, the tally, where the text ends, and
-// whether the tape is stopped.
-pub struct Flow {
+// What absorbing a part came to: the bytes that wait at the buffer's front, the tally, where the text ends, and whether the tape is stopped.
+pub struct Intake {
     pub waiting: usize,
     pub calls: u64,
     pub offset: u64,
@@ -96,6 +96,11 @@ const READY: u64 = 0;
 
 // Numbers beyond this are too near the end of 64 bits to count on: 2^62.
 const FAR_OFF: u64 = 4611686018427387904;
+
+// A call of k bytes prints at most 13 k, and a last line 40.
+const LINE_ROOM: usize = 13;
+
+const LAST_ROOM: usize = 40;
 
 // Setup, as the tape allows it: once, and of at most 1024 records.
 fn set_up(
@@ -375,11 +380,22 @@ fn shift(buf: &mut [u8], from: usize, to: usize)
     }
 }
 
-// Whether a buffer's front is not to be absorbed.
-fn is_unfit(buffer: usize, to: usize, k: Tally, values: usize, words: usize, out: usize) -> bool
-    ensures { λ r. ⌜ r ≡ unfit buffer to k values words out ⌝ }
+// Whether a buffer's bytes from `from` up to `to` are not to be absorbed.
+pub fn is_unfit(
+    buffer: usize,
+    from: usize,
+    to: usize,
+    k: Tally,
+    values: usize,
+    words: usize,
+    out: usize,
+) -> bool
+    ensures { λ r. ⌜ Unfit buffer from to k values words out r ⌝ }
 {
     if buffer < to {
+        return true;
+    }
+    if to < from {
         return true;
     }
     if FAR_OFF < k.calls {
@@ -397,26 +413,28 @@ fn is_unfit(buffer: usize, to: usize, k: Tally, values: usize, words: usize, out
     if words != RECORDS {
         return true;
     }
-    if out < 40 {
+    if out < LAST_ROOM {
         return true;
     }
-    (out - 40) / 13 < to
+    (out - LAST_ROOM) / LINE_ROOM < to
 }
 
-// Takes every whole call of the first `to` bytes of buf, puts their lines into out, and moves what is left to the front.
+// Takes every whole call of buf's bytes from `from` up to `to`, puts their lines into out, and moves what is left to buf's front.
 pub fn absorb(
     buf: &mut [u8],
+    from: usize,
     to: usize,
     k: Tally,
     values: &mut [u64],
     words: &mut [u64],
     seats: &mut [u64],
     out: &mut [u8],
-) -> Flow
-    ensures { λ r. ⌜ Absorbed (unfit (length (now (buf .entry))) to k (length (now (values .entry))) (length (now (words .entry))) (length (now (out .entry)))) to k (tables (now (values .entry)) (now (words .entry)) (now (seats .entry))) (now (buf .entry)) (now (out .entry)) r (tables (now (values .exit)) (now (words .exit)) (now (seats .exit))) (now (buf .exit)) (now (out .exit)) ⌝ }
+) -> Intake
+    ensures { λ r. ⌜ Absorbed (now (buf .entry)) from to k (now (values .entry)) (now (words .entry)) (now (seats .entry)) (now (out .entry))
+        r (now (buf .exit)) (now (values .exit)) (now (words .exit)) (now (seats .exit)) (now (out .exit)) ⌝ }
 {
-    if is_unfit(buf.len(), to, k, values.len(), words.len(), out.len()) {
-        return Flow {
+    if is_unfit(buf.len(), from, to, k, values.len(), words.len(), out.len()) {
+        return Intake {
             waiting: 0,
             calls: k.calls,
             offset: k.offset,
@@ -425,11 +443,11 @@ pub fn absorb(
             stopped: true,
         };
     }
-    let r = feed(&buf[..to], k, values, words, seats, out, 0);
+    let r = feed(&buf[from..to], k, values, words, seats, out, 0);
     let used = r.used;
-    shift(buf, used, to);
-    Flow {
-        waiting: to - used,
+    shift(buf, from + used, to);
+    Intake {
+        waiting: to - from - used,
         calls: r.calls,
         offset: k.offset + used as u64,
         records: r.records,

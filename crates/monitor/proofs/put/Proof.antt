@@ -1,6 +1,5 @@
 -- `monitor::put` meets its contract. Assumes nothing.
 use mathlib.Core.Path.{sym}
-use native.Mathlib.Omega.{arith}
 use denote.Ref.{now}
 use lib.Seq.{length-take-le}
 use borrow.Author.Needs.{needs}
@@ -9,17 +8,16 @@ use Rattle.monitor.proofs.put.Tie as tie
 
 slice-aggregate-write-all : tie.Need-slice-aggregate-write-all
 slice-aggregate-write-all c =
-    let a = c .before .before .before .args in
-    sym (length-take-le (a .end) (now (a .out)) (omega arith))
-
-write-all-requires : tie.Need-write-all-requires
-write-all-requires c κs = search needs
-
-returns : tie.Need-returns
-returns c = search needs
-
-returns-2 : tie.Need-returns-2
-returns-2 c = search needs
+    let start : tie.Start = search in
+    sym (length-take-le (start .args .end) (now (start .args .out)) (start .pre))
 
 pub put-spec : {M : Type 1} → statement M
-put-spec = tie.close (tie.spec slice-aggregate-write-all write-all-requires returns returns-2)
+put-spec =
+    tie.close
+    (tie.spec
+    slice-aggregate-write-all
+    (λ c κs. search needs)
+    (λ c. search needs)
+    (λ c. search needs)
+    (λ c κs. search needs)
+    (λ c. search needs))

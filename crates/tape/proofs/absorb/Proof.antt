@@ -1,55 +1,73 @@
 -- `tape::absorb` meets its contract. Assumes nothing.
 use Prim.Native.Nat.{ℕ, _-_, _≤_}
 use native.Mathlib.Omega.{arith}
+use native.Mathlib.Nat.{le-refl}
 use mathlib.Core.Path.{_≡_, refl, sym, ap, _∙_}
 use mathlib.Core.Bool.{false, true≢false}
-use mathlib.Core.List.{List}
 use denote.Ref.{now}
-use lib.ListN.{length, take}
+use lib.ListN.{length, drop, length-drop}
 use lib.Seq.{length-take-le}
 use Rattle.rules.specs.Tables.{tables}
-use Rattle.tape.specs.Turns.{stateOf, unfit}
-use Rattle.tape.proofs.Room.{Fit, fit, room, took}
-use Rattle.tape.proofs.Moved.{shift-front}
+use Rattle.tape.specs.Turns.{stateOf}
+use Rattle.tape.specs.Runs.{grown}
+use Rattle.tape.specs.Promises.{part, unfit}
+use Rattle.tape.specs.Room.{Fit, fit, room}
+use Rattle.tape.proofs.Moved.{took, waits-few}
 use borrow.Author.Needs.{needs}
 use Rattle.tape.proofs.absorb.Statement.{statement}
 use Rattle.tape.proofs.absorb.Tie as tie
 
-is-unfit-requires : tie.Need-is-unfit-requires
-is-unfit-requires c κs = search needs
-
+-- unfit
 returns : tie.Need-returns
 returns c =
-    let bad = sym (c .before .is-unfit .ensures) ∙ c .if1 .taken in
+    let at-test : tie.After-is-unfit = search in
+    let bad = sym (at-test .is-unfit .ensures) ∙ c .if1 .taken in
     record {
-      room = omega arith;
       done = λ e. absurd (true≢false (sym bad ∙ e));
-      moved = λ e. absurd (true≢false (sym bad ∙ e));
-      refused = λ _. (refl, refl, refl, refl);
+      refused = λ _. record { answer-is = refl; buffer-is = refl; tables-are = refl; out-is = refl };
+      short = λ e. absurd (true≢false e);
     }
 
--- once the front is fit to be absorbed
-good : (c : tie.Else1) → let a = c .before .before .before .before .before .before .before .args in unfit (length (now (a .buf))) (a .to) (a .k) (length (now (a .values))) (length (now (a .words))) (length (now (a .out))) ≡ false
+-- FIT: the lengths and the numbers are what they are to be
+abbrev start : tie.Else1 → tie.Start
+start c = c .before .before .before .before .before .before .before
+
+good : (c : tie.Else1) → let a = start c .args in
+    unfit (length (now (a .buf))) (a .from) (a .to) (a .k) (length (now (a .values))) (length (now (a .words))) (length (now (a .out))) ≡ false
 good c = sym (c .before .is-unfit .ensures) ∙ c .if1 .left
 
-fitting : (c : tie.Else1) → let a = c .before .before .before .before .before .before .before .args in Fit (length (now (a .buf))) (a .to) (a .k) (length (now (a .values))) (length (now (a .words))) (length (now (a .out)))
-fitting c = fit _ _ _ _ _ _ (good c)
+fitting : (c : tie.Else1) → let a = start c .args in
+    Fit (length (now (a .buf))) (a .from) (a .to) (a .k) (length (now (a .values))) (length (now (a .words))) (length (now (a .out)))
+fitting c = fit (good c)
 
-front : (c : tie.Else1) → let a = c .before .before .before .before .before .before .before .args in length (take (a .to) (now (a .buf))) ≡ a .to
-front c = let a = c .before .before .before .before .before .before .before .args in length-take-le (a .to) (now (a .buf)) (fitting c .inside)
+part-length : (c : tie.Else1) → let a = start c .args in length (part (now (a .buf)) (a .from) (a .to)) ≡ a .to - a .from
+part-length c =
+    let a = start c .args in
+    let g = fitting c in
+    length-take-le (a .to - a .from) (drop (a .from) (now (a .buf))) (omega (arith, g .inside, length-drop (a .from) (now (a .buf))))
 
-slice-reshare-prefix-feed : tie.Need-slice-reshare-prefix-feed
-slice-reshare-prefix-feed c = omega (arith, fitting c .inside)
+-- what feed took lies within the part
+used-within : (c : tie.After-feed) → let fine : tie.Else1 = search in c .feed .result .used ≤ start fine .args .to - start fine .args .from
+used-within c =
+    let fine : tie.Else1 = search in
+    omega (arith, c .feed .ensures .used, part-length fine)
 
-slice-aggregate-feed : tie.Need-slice-aggregate-feed
-slice-aggregate-feed c = sym (front (c .before))
+sub-feed : tie.Need-sub-feed
+sub-feed c = omega (arith, fitting c .behind)
+
+part-feed-start : tie.Need-part-feed-start
+part-feed-start c = let fine : tie.Else1 = search in omega (arith, fitting fine .behind)
+
+part-feed-end : tie.Need-part-feed-end
+part-feed-end c = let fine : tie.Else1 = search in omega (arith, fitting fine .inside)
 
 feed-requires : tie.Need-feed-requires
 feed-requires c κs =
-    let g = fitting (c .before .before .before .before .before) in
-    let n = front (c .before .before .before .before .before) in (
-      omega (arith, g .offset, g .roomy),
-      omega (arith, g .calls, g .roomy),
+    let fine : tie.Else1 = search in
+    let g = fitting fine in
+    let n = part-length fine in (
+      omega (arith, g .offset, g .roomy, start fine .good),
+      omega (arith, g .calls, g .roomy, start fine .good),
       g .records,
       g .values-are,
       g .words-are,
@@ -57,73 +75,62 @@ feed-requires c κs =
 
 shift-requires : tie.Need-shift-requires
 shift-requires c κs =
-    let g = fitting (c .before .before .before .before .before .before .before .before .before .before .before .before .before .before .before) in
-    let n = front (c .before .before .before .before .before .before .before .before .before .before .before .before .before .before .before) in
-    omega (arith, c .before .before .before .before .before .before .before .before .before .feed .ensures .used, g .inside)
+    let at-feed : tie.After-feed = search in
+    let fine : tie.Else1 = search (at-feed) in
+    omega (arith, used-within at-feed, fitting fine .inside, fitting fine .behind)
 
-sub-t11 : tie.Need-sub-t11
-sub-t11 c =
-    let g = fitting (c .before .before .before .before .before .before .before .before .before .before .before .before .before .before .before .before .before .before) in
-    let n = front (c .before .before .before .before .before .before .before .before .before .before .before .before .before .before .before .before .before .before) in
-    omega (arith, c .before .before .before .before .before .before .before .before .before .before .before .before .feed .ensures .used)
+sub-t12 : tie.Need-sub-t12
+sub-t12 c =
+    let at-feed : tie.After-feed = search in
+    let fine : tie.Else1 = search (at-feed) in
+    omega (arith, used-within at-feed, fitting fine .behind)
 
-add-t29 : tie.Need-add-t29
-add-t29 c =
-    let g = fitting (c .before .before .before .before .before .before .before .before .before .before .before .before .before .before .before .before .before .before .before) in
-    let n = front (c .before .before .before .before .before .before .before .before .before .before .before .before .before .before .before .before .before .before .before) in
-    omega (arith, c .before .before .before .before .before .before .before .before .before .before .before .before .before .feed .ensures .used, g .offset, g .roomy, c .before .before .before .before .before .before .before .before .before .before .before .before .before .before .before .before .before .before .before .before .before .before .before .before .before .before .good)
-
-same-length : tie.Need-same-length
-same-length c = search needs
-
-same-length-2 : tie.Need-same-length-2
-same-length-2 c = search needs
-
-same-length-3 : tie.Need-same-length-3
-same-length-3 c = search needs
-
-same-length-4 : tie.Need-same-length-4
-same-length-4 c = search needs
-
-same-length-5 : tie.Need-same-length-5
-same-length-5 c = search needs
+add-t31 : tie.Need-add-t31
+add-t31 c =
+    let at-feed : tie.After-feed = search in
+    let fine : tie.Else1 = search (at-feed) in
+    omega (arith, used-within at-feed, fitting fine .offset, fitting fine .roomy, start fine .good)
 
 returns-2 : tie.Need-returns-2
 returns-2 c =
-    let a = c .before .before .before .before .before .before .before .before .before .before .before .before .before .before .before .before .before .before .before .before .before .before .before .before .before .before .args in
-    let g = fitting (c .before .before .before .before .before .before .before .before .before .before .before .before .before .before .before .before .before .before .before) in
-    let n = front (c .before .before .before .before .before .before .before .before .before .before .before .before .before .before .before .before .before .before .before) in
-    let r = c .before .before .before .before .before .before .before .before .before .before .before .before .before .feed .result in
-    let d = c .before .before .before .before .before .before .before .before .before .before .before .before .before .feed .ensures in
-    let u : r .used ≤ a .to = omega (arith, d .used) in
+    let at-shift : tie.After-shift = search in
+    let at-feed : tie.After-feed = search (at-shift) in
+    let fine : tie.Else1 = search (at-feed) in
+    let a = start fine .args in
+    let g = fitting fine in
+    let bytes : tie.After-slice-known = search (fine) in
+    let p = part (now (a .buf)) (a .from) (a .to) in
     let s = stateOf (a .k) (tables (now (a .values)) (now (a .words)) (now (a .seats))) in
-    let back : a .to - (a .to - r .used) ≡ r .used = omega arith in
+    let ran = at-feed .feed .ensures in
+    let roomy = room (length p) s p (le-refl (length p)) in
     record {
-      room = omega arith;
       done = λ _.
-          took _ (take (a .to) (now (a .buf))) (a .k) (now (a .out)) r _ _ _ _ (rw n at d)
-          (omega (arith, room (a .to) s (take (a .to) (now (a .buf))) (omega arith), g .roomy)) (omega (arith, c .before .before .before .before .before .before .before .before .before .before .before .before .before .before .before .before .before .before .before .before .before .before .before .before .before .before .good))
-          (ap (λ (b : List ℕ). take (a .to - r .used) b) (c .before .before .before .shift .ensures) ∙ shift-front (now (a .buf)) (r .used) (a .to) u (g .inside))
-          (omega arith);
-      moved = λ _. rw back (c .before .before .before .shift .ensures);
-      refused = λ e. absurd (true≢false (sym e ∙ good (c .before .before .before .before .before .before .before .before .before .before .before .before .before .before .before .before .before .before .before)));
+          took (now (a .buf)) (now (a .out)) (a .from) (a .to) (a .k) _ (at-feed .feed .result) _ _ _ _ ran (g .behind) (g .inside) _ (at-shift .shift .ensures)
+          (omega (arith, roomy, part-length fine, g .roomy)) (omega (arith, start fine .good));
+      refused = λ e. absurd (true≢false (sym e ∙ good fine));
+      short = λ e.
+          waits-few (now (a .buf)) (now (a .out)) (a .from) (a .to) (a .k) _ (at-feed .feed .result) _ _ _ _ ran (g .behind) (g .inside)
+          (λ i. omega (arith, bytes .slice-known .given i)) (grown (length p) s p (le-refl (length p)) .wanting (sym (ran .stopped) ∙ e));
     }
 
 pub absorb-spec : {M : Type 1} → statement M
 absorb-spec =
     tie.close
     (tie.spec
-    is-unfit-requires
+    (λ c κs. search needs)
     returns
-    slice-reshare-prefix-feed
-    slice-aggregate-feed
+    sub-feed
+    part-feed-start
+    part-feed-end
     feed-requires
+    (λ c. search needs)
     shift-requires
-    sub-t11
-    add-t29
-    same-length
-    same-length-2
-    same-length-3
-    same-length-4
-    same-length-5
+    sub-t12
+    (λ c. search needs)
+    add-t31
+    (λ c. search needs)
+    (λ c. search needs)
+    (λ c. search needs)
+    (λ c. search needs)
+    (λ c. search needs)
     returns-2)

@@ -9,7 +9,8 @@ use Rattle.rules.specs.Tables.{tables}
 use Rattle.rules.specs.Plan.{setup}
 use Rattle.rules.specs.Calls.{step}
 use Rattle.tape.specs.Lines.{lent}
-use Rattle.tape.proofs.Lending.{unchanged, given-back, setup-again, setup-many, setup-lent}
+use Rattle.tape.specs.Runs.{setup-again, setup-many, setup-lent}
+use Rattle.tape.proofs.Lending.{unchanged, given-back}
 use borrow.Author.Needs.{needs}
 use Rattle.tape.proofs.set_up.Statement.{statement}
 use Rattle.tape.proofs.set_up.Tie as tie

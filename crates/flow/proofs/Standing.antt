@@ -1,0 +1,185 @@
+-- A buffer's front, and the steps over it. Assumes nothing.
+use Prim.Native.Nat.{ℕ, zero, suc, _+_, _-_, _≤_, _<_}
+use native.Mathlib.Omega.{arith}
+use native.Mathlib.Nat.{sub-zero, zero-add}
+use mathlib.Core.Path.{_≡_, refl, ap, sym, _∙_}
+use mathlib.Core.Bool.{true, false, true≢false}
+use mathlib.Core.List.{List, [], _++_}
+use lib.Dec.{eqb}
+use lib.ListN.{length, take, drop, getD, take-append-drop}
+use lib.Seq.{length-take-le, take-add, getD-take}
+use borrow.Author.Tests.{eq-eqb, ne-eqb, le-leb}
+use Rattle.text.specs.Text.{putIn, Appended}
+use Rattle.rules.specs.Tables.{tables}
+use Rattle.tape.specs.declared.Intake.{Intake}
+use Rattle.tape.specs.declared.Tally.{Tally}
+use Rattle.tape.specs.Lines.{State, stopLine, endLine}
+use Rattle.tape.specs.Turns.{stateOf, most}
+use Rattle.tape.specs.Promises.{atFront, part, unfit, Closed, Absorbed}
+use Rattle.tape.specs.Room.{Fit, fit, not-unfit, drop-take, put-front, end-line}
+use Rattle.flow.specs.declared.Flow.{Flow}
+use Rattle.flow.specs.Parts.{onward, opened, stepped, closing}
+use Rattle.flow.specs.Promises.{tallyOf, standOf, haltedAt, unbegunAt, unready, Goes, Stepped, Finished}
+use Rattle.flow.specs.Steps.{no-version-room}
+
+-- THE FRONT OF A BUFFER: what waits, and the part behind it
+module _ (buffer : List ℕ) (w to : ℕ) (behind : w ≤ to) where
+  front-joins : take w buffer ++ part buffer w to ≡ part buffer 0 to
+  front-joins =
+      let e : w + (to - w) ≡ to - 0 = omega arith in
+      sym (take-add w (to - w) buffer) ∙ ap (λ (n : ℕ). take n buffer) e
+
+-- what waits stays where it is
+front-stays : (buffer : List ℕ) (w : ℕ) → w ≤ length buffer → buffer ≡ atFront (take w buffer) buffer
+front-stays buffer w h = sym (rw (length-take-le w buffer h) (take-append-drop w buffer))
+
+-- CALLS: what absorbing leaves is a step onward
+abbrev begunAt : Intake → Flow
+begunAt r =
+    record { begun = true; stopped = r .stopped; waiting = r .waiting; calls = r .calls; offset = r .offset; records = r .records; end = r .end }
+
+pub onward-goes : {buffer : List ℕ} {from to : ℕ} {k : Tally} {values words seats out : List ℕ} {r : Intake} {buffer′ values′ words′ seats′ out′ : List ℕ}
+    → unfit (length buffer) from to k (length values) (length words) (length out) ≡ false
+    → Absorbed buffer from to k values words seats out r buffer′ values′ words′ seats′ out′
+    → Goes (onward (stateOf k (tables values words seats)) (part buffer from to)) buffer out (begunAt r) buffer′ values′ words′ seats′ out′
+onward-goes h a =
+    let d = a .done h in
+    record {
+      went = record { answer-is = ap begunAt (d .answer-is); buffer-is = d .buffer-is; tables-are = d .tables-are; out-is = d .out-is };
+      short = a .short;
+    }
+
+-- the bytes that are fit behind those that wait are fit from any place before `to`
+pub fit-from : {buffer w to : ℕ} {k : Tally} {values words out : ℕ} → Fit buffer w to k values words out
+    → (from : ℕ) → from ≤ to → unfit buffer from to k values words out ≡ false
+fit-from g from h =
+    not-unfit
+    record {
+      inside = g .inside;
+      behind = h;
+      calls = g .calls;
+      offset = g .offset;
+      records = g .records;
+      values-are = g .values-are;
+      words-are = g .words-are;
+      roomy = g .roomy;
+    }
+
+-- THE FIRST BYTES, by their three ways
+opened-none : (s : State) (t : List ℕ) → length t ≡ 0
+    → opened s t ≡ record { text = []; stand = record { begun = false; stopped = false; kept = s; left = [] } }
+unfolding opened
+opened-none s t e = rw (eq-eqb (length t) 0 e)
+
+pub opened-calls : (s : State) (t : List ℕ) → 0 < length t → getD t 0 0 ≡ 1 → opened s t ≡ onward s (drop 1 t)
+unfolding opened
+opened-calls s t h e = simp (ne-eqb (length t) 0 (λ z. omega arith), eq-eqb (getD t 0 0) 1 e)
+
+pub opened-bad : (s : State) (t : List ℕ) → 0 < length t → (getD t 0 0 ≡ 1 → ⊥)
+    → opened s t ≡ record { text = stopLine 31 0; stand = record { begun = false; stopped = true; kept = s; left = [] } }
+unfolding opened
+opened-bad s t h e = simp (ne-eqb (length t) 0 (λ z. omega arith), ne-eqb (getD t 0 0) 1 e)
+
+-- a step over a part that is fit
+fits-step : {f : Flow} {buffer : List ℕ} {to : ℕ} {values words seats out : List ℕ} {r : Flow} {buffer′ values′ words′ seats′ out′ : List ℕ}
+    → unready f buffer to values words out ≡ false
+    → Goes (stepped (standOf f (tables values words seats) buffer) (part buffer (f .waiting) to)) buffer out r buffer′ values′ words′ seats′ out′
+    → Stepped f buffer to values words seats out r buffer′ values′ words′ seats′ out′
+fits-step ready k = record { done = λ _. k .went; refused = λ e. absurd (true≢false (sym e ∙ ready)); short = k .short }
+
+module _ (f : Flow) (buffer : List ℕ) (to : ℕ) (values words seats out : List ℕ) (ready : unready f buffer to values words out ≡ false) where
+  g : Fit (length buffer) (f .waiting) to (tallyOf f) (length values) (length words) (length out)
+  g = fit ready
+
+  abbrev kept : State
+  kept = stateOf (tallyOf f) (tables values words seats)
+
+  all-length : length (part buffer 0 to) ≡ to
+  all-length = length-take-le (to - 0) buffer (omega (arith, g .inside)) ∙ sub-zero to
+
+  all-first : 0 < to → getD (part buffer 0 to) 0 0 ≡ getD buffer 0 0
+  all-first h = getD-take (to - 0) buffer 0 0 (omega arith)
+
+  pub waits-on : {r : Flow} → to ≡ 0 → r ≡ unbegunAt f false 0 → Goes (opened kept (part buffer 0 to)) buffer out r buffer values words seats out
+  waits-on e q =
+      rw (opened-none kept (part buffer 0 to) (all-length ∙ e))
+      record {
+        went = record { answer-is = q; buffer-is = refl; tables-are = refl; out-is = refl };
+        short = λ _. omega (arith, ap (λ (x : Flow). x .waiting) q);
+      }
+
+  pub calls-behind : {r : Flow} {buffer′ values′ words′ seats′ out′ : List ℕ} → 0 < to → getD buffer 0 0 ≡ 1
+      → Goes (onward kept (part buffer 1 to)) buffer out r buffer′ values′ words′ seats′ out′
+      → Goes (opened kept (part buffer 0 to)) buffer out r buffer′ values′ words′ seats′ out′
+  calls-behind h e k =
+      let d : drop 1 (part buffer 0 to) ≡ part buffer 1 to = drop-take buffer 1 (to - 0) (omega arith) ∙ ap (λ (n : ℕ). take (n - 1) (drop 1 buffer)) (sub-zero to) in
+      rw (opened-calls kept (part buffer 0 to) (omega (arith, all-length)) (all-first h ∙ e), d) k
+
+  pub other-version : {n : ℕ} {out′ : List ℕ} {r : Flow} → 0 < to → (getD buffer 0 0 ≡ 1 → ⊥) → Appended out 0 (stopLine 31 0) n out′
+      → r ≡ unbegunAt f true n → Goes (opened kept (part buffer 0 to)) buffer out r buffer values words seats out′
+  other-version h e a q =
+      rw (opened-bad kept (part buffer 0 to) (omega (arith, all-length)) (λ z. e (sym (all-first h) ∙ z)))
+      record {
+        went =
+            record {
+              answer-is = q ∙ ap (unbegunAt f true) (a .size);
+              buffer-is = refl;
+              tables-are = refl;
+              out-is = a .text ∙ put-front (stopLine 31 0) out (omega (arith, no-version-room, g .roomy));
+            };
+        short = λ z. absurd (true≢false (sym (ap (λ (x : Flow). x .stopped) q) ∙ z));
+      }
+
+  stays-there : f .stopped ≡ true
+      → Goes (stepped (standOf f (tables values words seats) buffer) (part buffer (f .waiting) to)) buffer out (haltedAt f) buffer values words seats out
+  unfolding stepped
+  stays-there e =
+      let n : length (take (f .waiting) buffer) ≡ f .waiting = length-take-le (f .waiting) buffer (omega (arith, g .inside, g .behind)) in
+      rw e
+      record {
+        went =
+            record {
+              answer-is = rw n;
+              buffer-is = front-stays buffer (f .waiting) (omega (arith, g .inside, g .behind));
+              tables-are = refl;
+              out-is = refl;
+            };
+        short = λ z. absurd (true≢false z);
+      }
+
+  -- A STEP, by its three ways
+  pub stays : {r : Flow} → f .stopped ≡ true → r ≡ haltedAt f → Stepped f buffer to values words seats out r buffer values words seats out
+  stays e q = fits-step ready (rw q (stays-there e))
+
+  pub goes-on : {r : Flow} {buffer′ values′ words′ seats′ out′ : List ℕ} → f .stopped ≡ false → f .begun ≡ true
+      → Goes (onward kept (part buffer 0 to)) buffer out r buffer′ values′ words′ seats′ out′
+      → Stepped f buffer to values words seats out r buffer′ values′ words′ seats′ out′
+  unfolding stepped
+  goes-on e b k = fits-step ready (rw (e, b, front-joins buffer (f .waiting) to (g .behind)) k)
+
+  pub opens : {r : Flow} {buffer′ values′ words′ seats′ out′ : List ℕ} → f .stopped ≡ false → f .begun ≡ false
+      → Goes (opened kept (part buffer 0 to)) buffer out r buffer′ values′ words′ seats′ out′
+      → Stepped f buffer to values words seats out r buffer′ values′ words′ seats′ out′
+  unfolding stepped
+  opens e b k = fits-step ready (rw (e, b, front-joins buffer (f .waiting) to (g .behind)) k)
+
+put-nothing : (l : List ℕ) → l ≡ putIn l 0 []
+put-nothing l = sym (put-front [] l (omega arith))
+
+-- THE LAST LINE, by its three ways
+module _ (f : Flow) (out : List ℕ) where
+  pub ends-stopped : f .stopped ≡ true → Finished f out 0 out
+  unfolding closing
+  ends-stopped e = rw e record { size = refl; text = put-nothing out }
+
+  pub ends-begun : {r : ℕ} {out′ : List ℕ} → f .stopped ≡ false → f .begun ≡ true
+      → Closed out 0 (endLine (eqb (f .waiting) 0) (f .calls) (f .offset)) r out′ → Finished f out r out′
+  unfolding closing
+  ends-begun e b k =
+      let line : List ℕ = endLine (eqb (f .waiting) 0) (f .calls) (f .offset) in
+      let n : 0 + length line ≤ most = omega (arith, end-line (eqb (f .waiting) 0) (f .calls) (f .offset)) in
+      rw (e, b) record { size = k .end ∙ rw (le-leb (0 + length line) most n) (zero-add (length line)); text = k .text }
+
+  pub ends-unbegun : {r : ℕ} {out′ : List ℕ} → f .stopped ≡ false → f .begun ≡ false → Appended out 0 (stopLine 31 0) r out′ → Finished f out r out′
+  unfolding closing
+  ends-unbegun e b k = rw (e, b) record { size = k .size; text = k .text }
