@@ -100,8 +100,8 @@ pub fn output(
     drop(command);
     let (input, told, errors) = (child.stdin.take(), child.stdout.take(), child.stderr.take());
     let heard = within(patience, &mut child, || heard(most, told, errors, || feed(input)));
+    let (stdout, stderr) = heard.flatten().or_else(|error| stopped(&mut child).and(Err(error)))?;
     let status = ended_within(patience, &mut child)?;
-    let (stdout, stderr) = heard??;
     Ok(Output { status, stdout, stderr })
 }
 

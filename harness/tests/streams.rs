@@ -197,6 +197,25 @@ fn an_output_that_is_full() {
     });
 }
 
+/// A disk that fills up takes a part of the lines first. Here the system lets no file grow past a
+/// small size.
+#[test]
+fn an_output_that_fills_up() {
+    let tape = ORDINARY.tape(100_000);
+    let path = Path::new(env!("CARGO_TARGET_TMPDIR")).join("small.lines");
+    let mut command = Command::new("sh");
+    command.args(["-c", "trap '' XFSZ; ulimit -f 99; exec \"$0\""]).arg(monitor());
+    command.stdin(Stdio::piped()).stderr(Stdio::piped());
+    command.stdout(File::create(&path).expect("the folder can be written"));
+    let output = outside::output(command, PATIENCE, most_lines(&tape), outside::bytes(&tape));
+    let output = output.unwrap_or_else(|error| panic!("{error}"));
+    let (whole, part) = (program::play_bytes(&tape), fs::read(&path));
+    let (whole, part) = (whole.expect("memory can be written"), part.expect("the file is there"));
+    assert!(part.len() >= 99 * 512 && part.len() < whole.len(), "{} bytes", part.len());
+    assert!(whole.starts_with(&part), "other lines");
+    assert_eq!(String::from_utf8_lossy(&output.stderr), UNWRITTEN);
+}
+
 #[test]
 fn no_output_at_all() {
     says_unwritten(|| {
@@ -211,6 +230,17 @@ fn no_output_at_all() {
 fn an_input_that_cannot_be_read() {
     let folder = File::open(env!("CARGO_TARGET_TMPDIR")).expect("the folder is there");
     let output = output_from(folder, &[]);
+    assert!(output.stdout.is_empty());
+    assert_eq!(String::from_utf8_lossy(&output.stderr), UNREAD);
+}
+
+#[test]
+fn no_input_at_all() {
+    let mut command = Command::new("sh");
+    command.args(["-c", "exec \"$0\" <&-"]).arg(monitor());
+    command.stdout(Stdio::piped()).stderr(Stdio::piped());
+    let output = outside::output(command, PATIENCE, most_lines(&[]), |_| Ok(()));
+    let output = output.unwrap_or_else(|error| panic!("{error}"));
     assert!(output.stdout.is_empty());
     assert_eq!(String::from_utf8_lossy(&output.stderr), UNREAD);
 }
