@@ -1,3 +1,4 @@
--- Laws that more than one function's proof rests on (Standing), and THE THEOREM (Stream).
+-- Laws that the proofs of several functions rest on (Standing), THE THEOREM (Stream), and what it says of the functions (Hosts).
 pub mod Standing
 pub mod Stream
+pub mod Hosts

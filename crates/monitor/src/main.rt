@@ -15,7 +15,7 @@ const INPUT: usize = 65537;
 const OUTPUT: usize = 13 * INPUT + 40;
 
 // A proved loop has to end, and nothing says that the input does. So many turns, each of a full input buffer, keep every number below 2^62.
-const TURNS: u64 = 4611686018427387903 / 65537;
+const TURNS: u64 = 4611686018427387903 / (INPUT as u64);
 
 // What a read came to: where the bytes then end, and whether it failed.
 struct Input {

@@ -30,7 +30,7 @@ returns-2 c =
     let at-calls : tie.After-take-calls = search in
     let at-one : tie.Then2 = search (at-calls) in
     let start : tie.Start = search (at-one) in
-    calls-behind (start .args .f) _ _ _ _ _ _ (start .pre) (omega arith) (at-one .if2 .taken) (at-calls .take-calls .ensures)
+    calls-behind (start .args .f) _ _ _ _ _ _ (start .pre) (omega arith) (omega (arith, at-one .if2 .taken)) (at-calls .take-calls .ensures)
 
 -- another
 returns-3 : tie.Need-returns-3

@@ -103,10 +103,11 @@ returns-2 c =
     let s = stateOf (a .k) (tables (now (a .values)) (now (a .words)) (now (a .seats))) in
     let ran = at-feed .feed .ensures in
     let roomy = room (length p) s p (le-refl (length p)) in
+    let left =
+        took (now (a .buf)) (now (a .out)) (a .from) (a .to) (a .k) _ (at-feed .feed .result) _ _ _ _ ran (g .behind) (g .inside) _ (at-shift .shift .ensures)
+        (omega (arith, roomy, part-length fine, g .roomy)) (omega (arith, start fine .good)) in
     record {
-      done = λ _.
-          took (now (a .buf)) (now (a .out)) (a .from) (a .to) (a .k) _ (at-feed .feed .result) _ _ _ _ ran (g .behind) (g .inside) _ (at-shift .shift .ensures)
-          (omega (arith, roomy, part-length fine, g .roomy)) (omega (arith, start fine .good));
+      done = λ _. record { answer-is = left .answer-is; buffer-is = left .buffer-is; tables-are = left .tables-are; out-is = left .out-is };
       refused = λ e. absurd (true≢false (sym e ∙ good fine));
       short = λ e.
           waits-few (now (a .buf)) (now (a .out)) (a .from) (a .to) (a .k) _ (at-feed .feed .result) _ _ _ _ ran (g .behind) (g .inside)
