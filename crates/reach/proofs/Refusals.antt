@@ -186,6 +186,15 @@ module _ (t : Tables) (z : Reached t) where
   unfolding setupRefusal due
   setup-is start plan = rw (not-unsized t k) refl
 
+  -- ADVANCE AND ABANDON
+  advance-is : (o s : ℕ) → refusal t o s 0 4 ≡ due (known z) (Advance o s)
+  unfolding due
+  advance-is o s = refusal-is o s 0 4 _ (never-late s)
+
+  abandon-is : (o s : ℕ) → refusal t o s 0 3 ≡ due (known z) (Abandon o s)
+  unfolding due
+  abandon-is o s = refusal-is o s 0 3 _ (late-leave s)
+
   -- ANY CALL
   pub exact : (c : Call) → Exactly (step t c .answer) (due (known z) c)
   unfolding step due setup openSeat read write advance abandon letGo
@@ -198,11 +207,11 @@ module _ (t : Tables) (z : Reached t) where
       of-due (ap (λ (n : ℕ). orElse n (writeDue (known z) s x)) (refusal-is o s x 1 _ (late-work s)))
       (guarded (refusal t o s x 1) _ t (writeIn t s x v) (λ e. write-exact s x v (fine t o s x 1 e .seat-in)))
   exact (Advance o s) =
-      of-due (refusal-is o s 0 4 _ (never-late s))
+      of-due (advance-is o s)
       (guarded-only (refusal t o s 0 4) t (advanceIn t s)
       (λ e. word-given (advance-word t s (used-of t k o s 0 4 (fine t o s 0 4 e)))))
   exact (Abandon o s) =
-      of-due (refusal-is o s 0 3 _ (late-leave s))
+      of-due (abandon-is o s)
       (guarded-only (refusal t o s 0 3) t (letGo t s (Dropped s)) (λ e q. omega arith))
 
 -- EVERY REFUSAL, EXACTLY WHEN IT IS DUE
