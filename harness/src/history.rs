@@ -1,11 +1,13 @@
 //! A judge of histories: from calls and answers alone it finds whether seats were given by the
-//! plan, whether commits took exactly their steps in order, and whether a serial order exists.
+//! plan, whether each refusal was due, whether commits took exactly their steps in order, and
+//! whether a serial order exists.
 
 use std::collections::BTreeMap;
 
 use crate::answer::{Abort, Answer, Refusal};
 use crate::call::Call;
 use crate::plan::{OWNERS, Plan, SEATS};
+use crate::row::{READS, WRITES};
 
 /// A sealed transaction: what it read first of each record, and what it leaves.
 #[derive(Clone, Debug, PartialEq, Eq)]
@@ -135,10 +137,13 @@ impl Judge {
         record: u64,
         answer: Answer,
     ) -> Result<(), String> {
+        if let Err(refusal) = self.may_read(owner, seat, record) {
+            return due(refusal, answer);
+        }
         let Answer::Value(value) = answer else {
-            return refused(answer);
+            return Err("a value is due".into());
         };
-        let transaction = self.working_on(owner, seat, record)?;
+        let transaction = self.transaction(seat)?;
         match transaction.known(record) {
             Some(known) if known != value => Err(format!("the transaction knows {known}")),
             Some(_) => Ok(()),
@@ -157,17 +162,21 @@ impl Judge {
         value: u64,
         answer: Answer,
     ) -> Result<(), String> {
-        if answer != Answer::Noted(record) {
-            return refused(answer);
+        if let Err(refusal) = self.may_write(owner, seat, record) {
+            return due(refusal, answer);
         }
-        self.working_on(owner, seat, record)?.writes.insert(record, value);
+        if answer != Answer::Noted(record) {
+            return Err(format!("{} is due", Answer::Noted(record)));
+        }
+        self.transaction(seat)?.writes.insert(record, value);
         Ok(())
     }
 
     fn hear_advance(&mut self, owner: u64, seat: u64, answer: Answer) -> Result<(), String> {
-        let Some(transaction) = self.open_for(owner, seat) else {
-            return refused(answer);
-        };
+        if let Err(refusal) = self.held_by(owner, seat, 0) {
+            return due(refusal, answer);
+        }
+        let transaction = self.transaction(seat)?;
         transaction.advance(answer)?;
         match answer {
             Answer::Timed(time) => transaction.timed = Some(time),
@@ -183,37 +192,61 @@ impl Judge {
     }
 
     fn hear_abandon(&mut self, owner: u64, seat: u64, answer: Answer) -> Result<(), String> {
-        if answer != Answer::Dropped(seat) {
-            return refused(answer);
+        if let Err(refusal) = self.may_leave(owner, seat) {
+            return due(refusal, answer);
         }
-        let transaction = self.open_for(owner, seat).ok_or("no such seat is open")?;
-        if transaction.sealed {
-            return Err("a sealed transaction is never dropped".into());
+        if answer != Answer::Dropped(seat) {
+            return Err(format!("{} is due", Answer::Dropped(seat)));
         }
         self.clear(seat);
         Ok(())
     }
 
-    /// The transaction that may still read and write the record.
-    fn working_on(
-        &mut self,
-        owner: u64,
-        seat: u64,
-        record: u64,
-    ) -> Result<&mut Transaction, String> {
-        if record >= self.opening.len() as u64 {
-            return Err("there is no such record".into());
+    /// The owner's transaction on the seat, or why a call that names them is refused: a number out
+    /// of range, or a seat that is not the owner's.
+    fn held_by(&self, owner: u64, seat: u64, record: u64) -> Result<&Transaction, Refusal> {
+        if owner >= OWNERS as u64 || seat >= SEATS as u64 || record >= self.opening.len() as u64 {
+            return Err(Refusal::OutOfRange);
         }
-        let transaction = self.open_for(owner, seat).ok_or("no such seat is open")?;
-        if transaction.advances > 0 {
-            return Err("the commit has begun".into());
-        }
-        Ok(transaction)
+        let held = self.seats[seat as usize].as_ref();
+        held.filter(|transaction| transaction.owner == owner).ok_or(Refusal::NotYours)
     }
 
-    fn open_for(&mut self, owner: u64, seat: u64) -> Option<&mut Transaction> {
-        let place = self.seats.get_mut(usize::try_from(seat).ok()?)?;
-        place.as_mut().filter(|transaction| transaction.owner == owner)
+    /// The same for a call that comes too late once the commit has begun.
+    fn working(&self, owner: u64, seat: u64, record: u64) -> Result<&Transaction, Refusal> {
+        let transaction = self.held_by(owner, seat, record)?;
+        if transaction.advances > 0 { Err(Refusal::WrongPhase) } else { Ok(transaction) }
+    }
+
+    fn may_read(&self, owner: u64, seat: u64, record: u64) -> Result<(), Refusal> {
+        let transaction = self.working(owner, seat, record)?;
+        if transaction.known(record).is_some() {
+            return Ok(());
+        }
+        if transaction.reads.len() == READS {
+            return Err(Refusal::ReadsFull);
+        }
+        let locked = self.seats.iter().flatten().any(|other| other.holds(record));
+        if locked { Err(Refusal::RecordLocked) } else { Ok(()) }
+    }
+
+    fn may_write(&self, owner: u64, seat: u64, record: u64) -> Result<(), Refusal> {
+        let transaction = self.working(owner, seat, record)?;
+        let is_full = transaction.writes.len() == WRITES;
+        if is_full && !transaction.writes.contains_key(&record) {
+            return Err(Refusal::WritesFull);
+        }
+        Ok(())
+    }
+
+    fn may_leave(&self, owner: u64, seat: u64) -> Result<(), Refusal> {
+        let transaction = self.held_by(owner, seat, 0)?;
+        if transaction.sealed { Err(Refusal::WrongPhase) } else { Ok(()) }
+    }
+
+    fn transaction(&mut self, seat: u64) -> Result<&mut Transaction, String> {
+        let place = usize::try_from(seat).ok().and_then(|seat| self.seats.get_mut(seat));
+        place.and_then(Option::as_mut).ok_or_else(|| "no such seat is open".into())
     }
 
     fn clear(&mut self, seat: u64) {
@@ -226,6 +259,13 @@ impl Transaction {
     fn known(&self, record: u64) -> Option<u64> {
         let read = self.reads.iter().find(|&&(known, _)| known == record);
         self.writes.get(&record).copied().or(read.map(|&(_, value)| value))
+    }
+
+    /// Whether it was answered Locked for the record, and has not stored it since.
+    fn holds(&self, record: u64) -> bool {
+        let script = self.script();
+        let taken = |step| script[..self.advances].contains(&step);
+        taken(Step::Lock(record)) && !taken(Step::Store(record))
     }
 
     /// Every step from the first Advance to Done: 2w + r + 3 of them.
@@ -293,9 +333,15 @@ impl Transaction {
     }
 }
 
-/// Any answer but a refusal is unlawful here.
+/// The refusal that is due is the only lawful answer.
+fn due(refusal: Refusal, answer: Answer) -> Result<(), String> {
+    let lawful = Answer::from(refusal);
+    if answer == lawful { Ok(()) } else { Err(format!("{lawful} is due")) }
+}
+
+/// A Setup that succeeds needs a new judge.
 fn refused(answer: Answer) -> Result<(), String> {
-    if answer.is_refused() { Ok(()) } else { Err("not lawful here".into()) }
+    if answer.is_refused() { Ok(()) } else { Err("another judge is due".into()) }
 }
 
 fn replay(sealed: &Sealed, values: &mut [u64]) -> Result<(), String> {

@@ -279,3 +279,78 @@ fn damage_after_setup_is_found() {
     assert!(judged(&[(Call::Advance { owner: 0, seat: 9 }, Refused(3))], &[0, 0]).is_err());
     assert!(judged(&[(Call::Advance { owner: 0, seat: 9 }, Refused(4))], &[0, 0]).is_ok());
 }
+
+/// A seat 0 with these reads, and a seat 1 that holds record 1 and has `steps` Advances behind it.
+fn beside_a_lock(reads: &[Told], steps: usize) -> Vec<Told> {
+    let mut history = both_opened(&[write(1, 1, 7)]);
+    history.extend_from_slice(reads);
+    history.extend(commit(1, &[], 1, 3).into_iter().take(steps));
+    history
+}
+
+fn read_told(record: u64, answer: Answer) -> Told {
+    (Call::Read { owner: 0, seat: 0, record }, answer)
+}
+
+/// What the judge finds of the answers alone, with so many records.
+fn heard(records: usize, history: &[Told]) -> Result<(), String> {
+    let mut judge = Judge::new(&vec![0; records], plan());
+    history.iter().try_for_each(|(call, answer)| judge.observe(call, *answer))
+}
+
+/// Asserts that the call is lawfully answered so after the history, and not with the others.
+fn only(history: &[Told], lawful: Told, others: &[Answer]) {
+    let then = |answer| heard(2, &[history, &[(lawful.0, answer)]].concat());
+    assert_eq!(then(lawful.1), Ok(()), "{:?}", lawful.0);
+    for &answer in others {
+        let found = then(answer).expect_err("no such answer is lawful here");
+        assert!(found.contains("is due"), "'{found}' does not say what is due");
+    }
+}
+
+#[test]
+fn a_read_is_refused_for_a_lock_and_for_nothing_else() {
+    let refusals = [2, 4, 5, 8, 9, 10].map(Refused);
+    only(&beside_a_lock(&[], 0), read_told(1, Value(0)), &refusals);
+    only(&beside_a_lock(&[], 1), read_told(1, Refused(10)), &[Value(0), Refused(8), Refused(5)]);
+    only(&beside_a_lock(&[], 1), read_told(0, Value(0)), &refusals);
+    only(&beside_a_lock(&[read(0, 1, 0)], 1), read_told(1, Value(0)), &refusals);
+    only(&beside_a_lock(&[write(0, 1, 9)], 1), read_told(1, Value(9)), &refusals);
+    only(&beside_a_lock(&[], 3), read_told(1, Refused(10)), &[Value(0), Value(7)]);
+    only(&beside_a_lock(&[], 4), read_told(1, Value(7)), &refusals);
+}
+
+#[test]
+fn a_seat_is_refused_by_what_was_told_of_it() {
+    let opened = both_opened(&[]);
+    let write = |owner, seat, record| Call::Write { owner, seat, record, value: 9 };
+    let refusals = [2, 4, 5, 8, 9, 10].map(Refused);
+    only(&opened, (write(0, 0, 1), Noted(1)), &refusals);
+    only(&opened, (write(0, 1, 1), Refused(4)), &[Noted(1), Refused(2), Refused(5)]);
+    only(&opened, (write(0, 0, 2), Refused(2)), &[Noted(2), Refused(4)]);
+    only(&opened, (write(16, 0, 1), Refused(2)), &[Noted(1), Refused(4)]);
+    let timed = both_opened(&[advance(0, Timed(0))]);
+    only(&timed, (write(0, 0, 1), Refused(5)), &[Noted(1), Refused(4), Refused(9)]);
+    let abandon = Call::Abandon { owner: 0, seat: 0 };
+    only(&timed, (abandon, Dropped(0)), &refusals);
+    let sealed = [&timed[..], &[advance(0, Sealed(0))]].concat();
+    only(&sealed, (abandon, Refused(5)), &[Dropped(0), Refused(4)]);
+}
+
+#[test]
+fn full_rows_are_known() {
+    let told = |calls: Vec<Told>| heard(17, &[both_opened(&[]), calls].concat());
+    let reads = |count| (0..count).map(|record| read(0, record, 0)).collect::<Vec<Told>>();
+    let writes = |count| (0..count).map(|record| write(0, record, 9)).collect::<Vec<Told>>();
+    let refused = |told: Told, number| vec![(told.0, Refused(number))];
+    assert_eq!(told(reads(16)), Ok(()));
+    assert!(told(reads(17)).is_err());
+    assert_eq!(told([reads(16), refused(read(0, 16, 0), 8)].concat()), Ok(()));
+    assert!(told([reads(15), refused(read(0, 16, 0), 8)].concat()).is_err());
+    assert!(told([reads(16), refused(read(0, 0, 0), 8)].concat()).is_err());
+    assert_eq!(told(writes(8)), Ok(()));
+    assert!(told(writes(9)).is_err());
+    assert_eq!(told([writes(8), refused(write(0, 8, 9), 9)].concat()), Ok(()));
+    assert!(told([writes(7), refused(write(0, 8, 9), 9)].concat()).is_err());
+    assert!(told([writes(8), refused(write(0, 0, 9), 9)].concat()).is_err());
+}
