@@ -112,7 +112,8 @@ module _ (f : Flow) (buffer : List ℕ) (to : ℕ) (values words seats out : Lis
       → Goes (onward kept (part buffer 1 to)) buffer out r buffer′ values′ words′ seats′ out′
       → Goes (opened kept (part buffer 0 to)) buffer out r buffer′ values′ words′ seats′ out′
   calls-behind h e k =
-      let d : drop 1 (part buffer 0 to) ≡ part buffer 1 to = drop-take buffer 1 (to - 0) (omega arith) ∙ ap (λ (n : ℕ). take (n - 1) (drop 1 buffer)) (sub-zero to) in
+      let d : drop 1 (part buffer 0 to) ≡ part buffer 1 to =
+      drop-take buffer 1 (to - 0) (omega arith) ∙ ap (λ (n : ℕ). take (n - 1) (drop 1 buffer)) (sub-zero to) in
       rw (opened-calls kept (part buffer 0 to) (omega (arith, all-length)) (all-first h ∙ e), d) k
 
   pub other-version : {n : ℕ} {out′ : List ℕ} {r : Flow} → 0 < to → (getD buffer 0 0 ≡ 1 → ⊥) → Appended out 0 (stopLine 31 0) n out′

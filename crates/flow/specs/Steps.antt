@@ -66,5 +66,4 @@ closing-room begun stopped waiting calls offset =
 pub stands : (o : Step) (buffer out : List ℕ) {r : Flow} {buffer′ values′ words′ seats′ out′ : List ℕ} → Went o buffer out r buffer′ values′ words′ seats′ out′
     → standOf r (tables values′ words′ seats′) buffer′ ≡ o .stand
 stands o buffer out w =
-    let front : take (length (o .stand .left)) (o .stand .left ++ drop (length (o .stand .left)) buffer) ≡ o .stand .left = take-append-seam (o .stand .left) _ in
-    rw (w .answer-is, w .buffer-is, w .tables-are, front)
+    rw (w .answer-is, w .buffer-is, w .tables-are, take-append-seam (o .stand .left) (drop (length (o .stand .left)) buffer))

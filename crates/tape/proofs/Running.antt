@@ -1,9 +1,9 @@
--- A run over a part of a tape, turn by turn: how `fed` goes on, sums that stop, and the text so far. Assumes nothing.
+-- A run over a part of a tape, turn by turn: sums that stop, and the text so far. Assumes nothing.
 use Prim.Native.Nat.{ℕ, _+_, _-_, _≤_, _<_}
 use native.Mathlib.Omega.{arith}
 use native.Mathlib.Nat.{add-assoc, add-zero}
 use mathlib.Core.Bool.{Bool, true, false, cond}
-use mathlib.Core.Path.{_≡_, refl, ap, sym, _∙_, subst}
+use mathlib.Core.Path.{_≡_, refl, ap, sym, _∙_}
 use mathlib.Core.Logic.{⊎-elim, _⊎_, inl, inr}
 use mathlib.Core.List.{List, [], _++_}
 use lib.Dec.{leb}
@@ -27,7 +27,9 @@ state calls offset records t = record { calls = calls; offset = offset; records 
 
 -- SUMS THAT STOP
 capped-cases : (a b : ℕ) → ((a + b ≤ most) × (capped a b ≡ a + b)) ⊎ ((most < a + b) × (capped a b ≡ most))
-capped-cases a b = cond-ind (λ (n : ℕ). ((a + b ≤ most) × (n ≡ a + b)) ⊎ ((most < a + b) × (n ≡ most))) (leb (a + b) most) (λ e. inl (leb-true _ _ e, refl)) (λ e. inr (leb-false _ _ e, refl))
+capped-cases a b =
+    cond-ind (λ (n : ℕ). ((a + b ≤ most) × (n ≡ a + b)) ⊎ ((most < a + b) × (n ≡ most))) (leb (a + b) most)
+    (λ e. inl (leb-true _ _ e, refl)) (λ e. inr (leb-false _ _ e, refl))
 
 pub capped-small : (a b : ℕ) → a + b ≤ most → capped a b ≡ a + b
 capped-small a b h = rw (le-leb (a + b) most h)

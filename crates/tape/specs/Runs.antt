@@ -76,7 +76,8 @@ module _ (records count start : ℕ) (t : Tables) (b : List ℕ) where
   setup-lent h g = simp (le-ltb 0 records h, le-ltb mostRecords count g)
 
 -- it lends at most 1024 records
-records-few : (c : Call) (b : List ℕ) (records : ℕ) (t : Tables) → records ≤ mostRecords → recordsAfter records c (performed records t c b .answer) ≤ mostRecords
+records-few : (c : Call) (b : List ℕ) (records : ℕ) (t : Tables) → records ≤ mostRecords
+    → recordsAfter records c (performed records t c b .answer) ≤ mostRecords
 records-few (Setup count start) b records t h =
     cond-ind (λ (n : ℕ). n ≤ mostRecords) (eqb (kind answer) ready) (λ e. given (eqb-true _ _ e) (leb count mostRecords) refl) (λ _. h)
   where

@@ -104,8 +104,8 @@ returns-2 c =
     let ran = at-feed .feed .ensures in
     let roomy = room (length p) s p (le-refl (length p)) in
     let left =
-        took (now (a .buf)) (now (a .out)) (a .from) (a .to) (a .k) _ (at-feed .feed .result) _ _ _ _ ran (g .behind) (g .inside) _ (at-shift .shift .ensures)
-        (omega (arith, roomy, part-length fine, g .roomy)) (omega (arith, start fine .good)) in
+    took (now (a .buf)) (now (a .out)) (a .from) (a .to) (a .k) _ (at-feed .feed .result) _ _ _ _ ran (g .behind) (g .inside) _ (at-shift .shift .ensures)
+    (omega (arith, roomy, part-length fine, g .roomy)) (omega (arith, start fine .good)) in
     record {
       done = λ _. record { answer-is = left .answer-is; buffer-is = left .buffer-is; tables-are = left .tables-are; out-is = left .out-is };
       refused = λ e. absurd (true≢false (sym e ∙ good fine));
