@@ -1,5 +1,5 @@
 -- A buffer's front, and the steps over it. Assumes nothing.
-use Prim.Native.Nat.{ℕ, zero, suc, _+_, _-_, _≤_, _<_}
+use Prim.Native.Nat.{ℕ, _+_, _-_, _≤_, _<_}
 use native.Mathlib.Omega.{arith}
 use native.Mathlib.Nat.{sub-zero, zero-add}
 use mathlib.Core.Path.{_≡_, refl, ap, sym, _∙_}

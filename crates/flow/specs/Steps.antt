@@ -2,17 +2,17 @@
 use Prim.Native.Nat.{ℕ, _+_, _≤_}
 use native.Mathlib.Omega.{arith}
 use native.Mathlib.Nat.{le-refl}
-use mathlib.Core.Path.{_≡_, refl, ap, sym, _∙_}
+use mathlib.Core.Path.{_≡_}
 use mathlib.Core.Bool.{Bool}
-use mathlib.Core.List.{List, [], _++_}
+use mathlib.Core.List.{List, _++_}
 use lib.Dec.{eqb}
-use lib.ListN.{length, take, drop, getD, length-drop, length-append}
+use lib.ListN.{length, drop, getD, length-drop, length-append}
 use lib.Seq.{take-append-seam}
 use Rattle.text.specs.Text.{widthIn, widthOf}
 use Rattle.rules.specs.Layout.{mostRecords}
-use Rattle.rules.specs.Tables.{Tables, tables}
+use Rattle.rules.specs.Tables.{tables}
 use Rattle.rows.specs.Fine.{cond-ind}
-use Rattle.tape.specs.Lines.{State, stopLine, endLine}
+use Rattle.tape.specs.Lines.{State, stopLine}
 use Rattle.tape.specs.Runs.{grown}
 use Rattle.tape.specs.Promises.{lastRoom, roomFor}
 use Rattle.tape.specs.Room.{room, stop-line, end-line}

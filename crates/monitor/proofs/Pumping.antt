@@ -1,7 +1,7 @@
 -- The program's lengths and numbers make every step whole, and the next one too. Assumes nothing.
-use Prim.Native.Nat.{ℕ, _+_, _-_, _*_, _≤_, _<_}
+use Prim.Native.Nat.{ℕ, _+_, _-_, _≤_, _<_}
 use native.Mathlib.Omega.{arith}
-use mathlib.Core.Path.{_≡_, refl, ap, sym, _∙_}
+use mathlib.Core.Path.{_≡_, refl, ap, _∙_}
 use mathlib.Core.Bool.{false}
 use mathlib.Core.List.{List, _++_}
 use lib.ListN.{length, take, drop, length-drop, length-append}

@@ -1,6 +1,6 @@
 -- `monitor::play` meets its contract: whenever the loop's test is reached, the lengths are what they were, and the flow is ready for as many turns
 -- as are to come. Assumes nothing.
-use Prim.Native.Nat.{_≤_, _<_}
+use Prim.Native.Nat.{_≤_}
 use native.Mathlib.Omega.{arith}
 use mathlib.Core.Path.{_≡_, refl}
 use borrow.Author.Needs.{needs}
