@@ -66,7 +66,7 @@ module _ (f : Flow) (buffer : List ℕ) (to : ℕ) (values words seats out : Lis
       record {
         went = s .done fine;
         fits = omega (arith, h .room);
-        roomy = s .short;
+        roomy = λ e. omega (arith, s .short e);
         calls = omega (arith, h .calls (ready .calls));
         offset = omega (arith, h .offset);
         records = omega (arith, h .records (ready .records));
