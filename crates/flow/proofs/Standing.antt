@@ -1,9 +1,9 @@
 -- A buffer's front, and the steps over it. Assumes nothing.
-use Prim.Native.Nat.{ℕ, zero, suc, _+_, _-_, _≤_, _<_}
+use Prim.Native.Nat.{ℕ, _+_, _-_, _≤_, _<_}
 use native.Mathlib.Omega.{arith}
 use native.Mathlib.Nat.{sub-zero, zero-add}
 use mathlib.Core.Path.{_≡_, refl, ap, sym, _∙_}
-use mathlib.Core.Bool.{true, false, true≢false}
+use mathlib.Core.Bool.{Bool, true, false, true≢false}
 use mathlib.Core.List.{List, [], _++_}
 use lib.Dec.{eqb}
 use lib.ListN.{length, take, drop, getD, take-append-drop}
@@ -112,7 +112,8 @@ module _ (f : Flow) (buffer : List ℕ) (to : ℕ) (values words seats out : Lis
       → Goes (onward kept (part buffer 1 to)) buffer out r buffer′ values′ words′ seats′ out′
       → Goes (opened kept (part buffer 0 to)) buffer out r buffer′ values′ words′ seats′ out′
   calls-behind h e k =
-      let d : drop 1 (part buffer 0 to) ≡ part buffer 1 to = drop-take buffer 1 (to - 0) (omega arith) ∙ ap (λ (n : ℕ). take (n - 1) (drop 1 buffer)) (sub-zero to) in
+      let d : drop 1 (part buffer 0 to) ≡ part buffer 1 to =
+      drop-take buffer 1 (to - 0) (omega arith) ∙ ap (λ (n : ℕ). take (n - 1) (drop 1 buffer)) (sub-zero to) in
       rw (opened-calls kept (part buffer 0 to) (omega (arith, all-length)) (all-first h ∙ e), d) k
 
   pub other-version : {n : ℕ} {out′ : List ℕ} {r : Flow} → 0 < to → (getD buffer 0 0 ≡ 1 → ⊥) → Appended out 0 (stopLine 31 0) n out′
@@ -172,13 +173,14 @@ module _ (f : Flow) (out : List ℕ) where
   unfolding closing
   ends-stopped e = rw e record { size = refl; text = put-nothing out }
 
-  pub ends-begun : {r : ℕ} {out′ : List ℕ} → f .stopped ≡ false → f .begun ≡ true
-      → Closed out 0 (endLine (eqb (f .waiting) 0) (f .calls) (f .offset)) r out′ → Finished f out r out′
+  pub ends-begun : {whole : Bool} {r : ℕ} {out′ : List ℕ} → f .stopped ≡ false → f .begun ≡ true
+      → Closed out 0 (endLine whole (f .calls) (f .offset)) r out′ → whole ≡ eqb (f .waiting) 0 → Finished f out r out′
   unfolding closing
-  ends-begun e b k =
+  ends-begun e b k w =
       let line : List ℕ = endLine (eqb (f .waiting) 0) (f .calls) (f .offset) in
       let n : 0 + length line ≤ most = omega (arith, end-line (eqb (f .waiting) 0) (f .calls) (f .offset)) in
-      rw (e, b) record { size = k .end ∙ rw (le-leb (0 + length line) most n) (zero-add (length line)); text = k .text }
+      let k′ = rw w at k in
+      rw (e, b) record { size = k′ .end ∙ rw (le-leb (0 + length line) most n) (zero-add (length line)); text = k′ .text }
 
   pub ends-unbegun : {r : ℕ} {out′ : List ℕ} → f .stopped ≡ false → f .begun ≡ false → Appended out 0 (stopLine 31 0) r out′ → Finished f out r out′
   unfolding closing

@@ -90,7 +90,8 @@ joins-stops b s a x e =
       goes = λ z. absurd (true≢false z);
     }
 
-joins-says : (b : List ℕ) (s : State) (a x : List ℕ) (k : ℕ) (s′ : State) (o : Fed) → turnOf s a ≡ says x k s′ → Joins b s′ (drop k a) o → Joins b s a (behind x o)
+joins-says : (b : List ℕ) (s : State) (a x : List ℕ) (k : ℕ) (s′ : State) (o : Fed) → turnOf s a ≡ says x k s′ → Joins b s′ (drop k a) o
+    → Joins b s a (behind x o)
 joins-says b s a x k s′ o e j =
     record {
       stopped = λ y F h.
@@ -99,7 +100,8 @@ joins-says b s a x k s′ o e j =
       goes = λ y F G h i.
           let more : Fed = fed G (o .kept) (o .left ++ b) in
           turn F h ∙ ap (behind x) (j .goes y (F - 1) G (rest F h) i)
-          ∙ ap (λ (l : List ℕ). record { text = l; kept = more .kept; left = more .left; stopped = more .stopped }) (sym (append-assoc x (o .text) (more .text)));
+          ∙ ap (λ (l : List ℕ). record { text = l; kept = more .kept; left = more .left; stopped = more .stopped })
+          (sym (append-assoc x (o .text) (more .text)));
     }
   where
     rest : (F : ℕ) → length (a ++ b) ≤ F → length (drop k a ++ b) ≤ F - 1
@@ -150,7 +152,8 @@ going-prints s l (p ∷ ps) w =
     go o j v ih true e =
         let F : Fed = fed (length ((l ++ p) ++ joined ps)) s ((l ++ p) ++ joined ps) in
         let k = j .stopped e (length ((l ++ p) ++ joined ps)) (le-refl _) in
-        rw (← append-assoc l p (joined ps), stopped-prints (record { begun = true; stopped = o .stopped; kept = o .kept; left = o .left }) ps e, last-stopped F (k .1), k .0)
+        let after : Stand = record { begun = true; stopped = o .stopped; kept = o .kept; left = o .left } in
+        rw (← append-assoc l p (joined ps), stopped-prints after ps e, last-stopped F (k .1), k .0)
     go o j v ih false e =
         let G : Fed = fed (length (o .left ++ joined ps)) (o .kept) (o .left ++ joined ps) in
         ap (λ (t : Bool). o .text ++ printed (record { begun = true; stopped = t; kept = o .kept; left = o .left }) ps) e

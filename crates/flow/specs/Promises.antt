@@ -33,7 +33,7 @@ flowOf o =
       end = length (o .text);
     }
 
--- `start`
+-- `start`: no byte is read, and nothing is to be written
 abbrev pub Opened : Flow → Type 0
 Opened r = r ≡ flowOf (record { text = []; stand = start })
 
@@ -50,14 +50,6 @@ unready f buffer to values words out = unfit (length buffer) (f .waiting) to (ta
 
 abbrev pub Went : Step → List ℕ → List ℕ → Flow → List ℕ → List ℕ → List ℕ → List ℕ → List ℕ → Type 0
 Went o buffer out = Leaves (flowOf o) (atFront (o .stand .left) buffer) (o .stand .kept .tables) (atFront (o .text) out)
-
--- what the inner functions leave: a step, and fewer bytes that wait than the longest frame has
-pub record Goes (o : Step) (buffer out : List ℕ) (r : Flow) (buffer′ values′ words′ seats′ out′ : List ℕ) : Type 0 where
-  pub went : Went o buffer out r buffer′ values′ words′ seats′ out′
-  pub short : r .stopped ≡ false → r .waiting < longest
-
-abbrev pub unbegunAt : Flow → Bool → ℕ → Flow
-unbegunAt f stopped end = record { begun = false; stopped = stopped; waiting = 0; calls = f .calls; offset = f .offset; records = f .records; end = end }
 
 pub record Stepped (f : Flow) (buffer : List ℕ) (to : ℕ) (values words seats out : List ℕ)
     (r : Flow) (buffer′ values′ words′ seats′ out′ : List ℕ) : Type 0 where
@@ -86,3 +78,12 @@ pub record Finished (f : Flow) (out : List ℕ) (r : ℕ) (out′ : List ℕ) : 
 
 pub Finished-one : {f : Flow} {out : List ℕ} {r q : ℕ} {a b : List ℕ} → Finished f out r a → Finished f out q b → (r ≡ q) × (a ≡ b)
 Finished-one p q = (p .size ∙ sym (q .size), p .text ∙ sym (q .text))
+
+-- WHAT THE INNER FUNCTIONS LEAVE: a step, and fewer bytes that wait than the longest frame has
+pub record Goes (o : Step) (buffer out : List ℕ) (r : Flow) (buffer′ values′ words′ seats′ out′ : List ℕ) : Type 0 where
+  pub went : Went o buffer out r buffer′ values′ words′ seats′ out′
+  pub short : r .stopped ≡ false → r .waiting < longest
+
+-- a flow that has read no version byte 1
+abbrev pub unbegunAt : Flow → Bool → ℕ → Flow
+unbegunAt f stopped end = record { begun = false; stopped = stopped; waiting = 0; calls = f .calls; offset = f .offset; records = f .records; end = end }

@@ -2,17 +2,17 @@
 use Prim.Native.Nat.{ℕ, _+_, _≤_}
 use native.Mathlib.Omega.{arith}
 use native.Mathlib.Nat.{le-refl}
-use mathlib.Core.Path.{_≡_, refl, ap, sym, _∙_}
+use mathlib.Core.Path.{_≡_}
 use mathlib.Core.Bool.{Bool}
-use mathlib.Core.List.{List, [], _++_}
+use mathlib.Core.List.{List, _++_}
 use lib.Dec.{eqb}
-use lib.ListN.{length, take, drop, getD, length-drop, length-append}
+use lib.ListN.{length, drop, getD, length-drop, length-append}
 use lib.Seq.{take-append-seam}
 use Rattle.text.specs.Text.{widthIn, widthOf}
 use Rattle.rules.specs.Layout.{mostRecords}
-use Rattle.rules.specs.Tables.{Tables, tables}
+use Rattle.rules.specs.Tables.{tables}
 use Rattle.rows.specs.Fine.{cond-ind}
-use Rattle.tape.specs.Lines.{State, stopLine, endLine}
+use Rattle.tape.specs.Lines.{State, stopLine}
 use Rattle.tape.specs.Runs.{grown}
 use Rattle.tape.specs.Promises.{lastRoom, roomFor}
 use Rattle.tape.specs.Room.{room, stop-line, end-line}
@@ -66,5 +66,4 @@ closing-room begun stopped waiting calls offset =
 pub stands : (o : Step) (buffer out : List ℕ) {r : Flow} {buffer′ values′ words′ seats′ out′ : List ℕ} → Went o buffer out r buffer′ values′ words′ seats′ out′
     → standOf r (tables values′ words′ seats′) buffer′ ≡ o .stand
 stands o buffer out w =
-    let front : take (length (o .stand .left)) (o .stand .left ++ drop (length (o .stand .left)) buffer) ≡ o .stand .left = take-append-seam (o .stand .left) _ in
-    rw (w .answer-is, w .buffer-is, w .tables-are, front)
+    rw (w .answer-is, w .buffer-is, w .tables-are, take-append-seam (o .stand .left) (drop (length (o .stand .left)) buffer))

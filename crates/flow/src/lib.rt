@@ -10,6 +10,7 @@ ghost use Rattle.tape.specs.Promises.{part, unfit};
 ghost use Rattle.flow.specs.Parts.{onward, opened};
 ghost use Rattle.flow.specs.Promises.{tallyOf, unready, haltedAt, unbegunAt, Goes, Opened, Stepped, Finished};
 use tape::Tally;
+use tape::VERSION;
 
 // What is kept from one part of a tape to the next.
 pub struct Flow {
@@ -25,8 +26,6 @@ pub struct Flow {
     // Where the text of the last part ends in the output.
     pub end: usize,
 }
-
-const VERSION: u8 = 1;
 
 // Before any byte is read. The first call stands behind the version byte.
 pub fn start() -> Flow

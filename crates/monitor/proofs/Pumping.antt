@@ -1,7 +1,7 @@
 -- The program's lengths and numbers make every step whole, and the next one too. Assumes nothing.
-use Prim.Native.Nat.{ℕ, _+_, _-_, _*_, _≤_, _<_}
+use Prim.Native.Nat.{ℕ, _+_, _-_, _≤_, _<_}
 use native.Mathlib.Omega.{arith}
-use mathlib.Core.Path.{_≡_, refl, ap, sym, _∙_}
+use mathlib.Core.Path.{_≡_, refl, ap, _∙_}
 use mathlib.Core.Bool.{false}
 use mathlib.Core.List.{List, _++_}
 use lib.ListN.{length, take, drop, length-drop, length-append}
@@ -66,7 +66,7 @@ module _ (f : Flow) (buffer : List ℕ) (to : ℕ) (values words seats out : Lis
       record {
         went = s .done fine;
         fits = omega (arith, h .room);
-        roomy = s .short;
+        roomy = λ e. omega (arith, s .short e);
         calls = omega (arith, h .calls (ready .calls));
         offset = omega (arith, h .offset);
         records = omega (arith, h .records (ready .records));

@@ -7,15 +7,18 @@ use flow::Flow;
 use libc::STDERR_FILENO;
 use libc::STDIN_FILENO;
 use libc::STDOUT_FILENO;
+use tape::FAR_OFF;
+use tape::LAST_ROOM;
+use tape::LINE_ROOM;
 
 // A frame has at most 65537 bytes, so one always fits.
 const INPUT: usize = 65537;
 
-// Room for the lines of a full input buffer: 13 bytes for each of its bytes, and 40.
-const OUTPUT: usize = 13 * INPUT + 40;
+// Room for the lines of a full input buffer.
+const OUTPUT: usize = LINE_ROOM * INPUT + LAST_ROOM;
 
 // A proved loop has to end, and nothing says that the input does. So many turns, each of a full input buffer, keep every number below 2^62.
-const TURNS: u64 = 4611686018427387903 / (INPUT as u64);
+const TURNS: u64 = (FAR_OFF - 1) / (INPUT as u64);
 
 // What a read came to: where the bytes then end, and whether it failed.
 struct Input {

@@ -1,9 +1,9 @@
--- A run over a part of a tape, turn by turn: how `fed` goes on, sums that stop, and the text so far. Assumes nothing.
+-- A run over a part of a tape, turn by turn: sums that stop, and the text so far. Assumes nothing.
 use Prim.Native.Nat.{ℕ, _+_, _-_, _≤_, _<_}
 use native.Mathlib.Omega.{arith}
 use native.Mathlib.Nat.{add-assoc, add-zero}
 use mathlib.Core.Bool.{Bool, true, false, cond}
-use mathlib.Core.Path.{_≡_, refl, ap, sym, _∙_, subst}
+use mathlib.Core.Path.{_≡_, refl, ap, sym, _∙_}
 use mathlib.Core.Logic.{⊎-elim, _⊎_, inl, inr}
 use mathlib.Core.List.{List, [], _++_}
 use lib.Dec.{leb}
@@ -27,7 +27,9 @@ state calls offset records t = record { calls = calls; offset = offset; records 
 
 -- SUMS THAT STOP
 capped-cases : (a b : ℕ) → ((a + b ≤ most) × (capped a b ≡ a + b)) ⊎ ((most < a + b) × (capped a b ≡ most))
-capped-cases a b = cond-ind (λ (n : ℕ). ((a + b ≤ most) × (n ≡ a + b)) ⊎ ((most < a + b) × (n ≡ most))) (leb (a + b) most) (λ e. inl (leb-true _ _ e, refl)) (λ e. inr (leb-false _ _ e, refl))
+capped-cases a b =
+    cond-ind (λ (n : ℕ). ((a + b ≤ most) × (n ≡ a + b)) ⊎ ((most < a + b) × (n ≡ most))) (leb (a + b) most)
+    (λ e. inl (leb-true _ _ e, refl)) (λ e. inr (leb-false _ _ e, refl))
 
 pub capped-small : (a b : ℕ) → a + b ≤ most → capped a b ≡ a + b
 capped-small a b h = rw (le-leb (a + b) most h)
@@ -125,7 +127,7 @@ abbrev progress : ℕ → ℕ → ℕ → ℕ → Bool → Progress
 progress used calls records end stopped = record { used = used; calls = calls; records = records; end = end; stopped = stopped }
 
 module _ (whole : Fed) (part : List ℕ) (offset from : ℕ) (out₀ : List ℕ) (n calls used records p : ℕ) (before : Tables) (out : List ℕ) (after : Tables) (out′ : List ℕ)
-    (enough : length (drop used part) ≤ n) (short : length out₀ < most) (small : p ≤ most) (within : used ≤ length part) (few : records ≤ mostRecords)
+    (enough : length (drop used part) ≤ n) (short : length out₀ < most) (small : p ≤ most) (within : used ≤ length part)
     (g : Going whole out₀ from (fed n (state calls (offset + used) records before) (drop used part)) out p) where
   ran : (x : List ℕ) (b : Bool) (q : ℕ) → fed n (state calls (offset + used) records before) (drop used part) ≡ ended x (state calls (offset + used) records before) (drop used part) b
       → after ≡ before → out′ ≡ putIn out p x → q ≡ capped p (length x) → Ran whole part offset from out₀ (progress used calls records q b) after out′
@@ -137,7 +139,6 @@ module _ (whole : Fed) (part : List ℕ) (offset from : ℕ) (out₀ : List ℕ)
         at = ap (λ (s : State). s .offset) (d .kept);
         calls = ap (λ (s : State). s .calls) (d .kept);
         records = ap (λ (s : State). s .records) (d .kept);
-        few = few;
         stopped = d .stopped;
         end = eq ∙ d .size;
         tables = same ∙ ap (λ (s : State). s .tables) (d .kept);
@@ -169,10 +170,10 @@ module _ (whole : Fed) (part : List ℕ) (offset from : ℕ) (out₀ : List ℕ)
 
 -- at the end of the part
 pub ran-all : (whole : Fed) (part : List ℕ) (offset from : ℕ) (out₀ : List ℕ) (n calls used records p : ℕ) (before : Tables) (out : List ℕ)
-    → length out₀ < most → p ≤ most → used ≤ length part → records ≤ mostRecords → length part ≤ used
+    → length out₀ < most → p ≤ most → used ≤ length part → length part ≤ used
     → Going whole out₀ from (fed n (state calls (offset + used) records before) (drop used part)) out p → Ran whole part offset from out₀ (progress used calls records p false) before out
-ran-all whole part offset from out₀ n calls used records p before out short small within few done g =
+ran-all whole part offset from out₀ n calls used records p before out short small within done g =
     let e : drop used part ≡ [] = drop-of-length-le part {i = used} done in
     let w : turnOf (state calls (offset + used) records before) (drop used part) ≡ waits = rw e (turn-nothing (state calls (offset + used) records before)) in
-    ran-waits whole part offset from out₀ n calls used records p before out before out (omega (arith, ap length e)) short small within few g
+    ran-waits whole part offset from out₀ n calls used records p before out before out (omega (arith, ap length e)) short small within g
     (rw w (record { turn = refl; tables = refl; text = put-nothing out p }))

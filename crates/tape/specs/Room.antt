@@ -56,7 +56,8 @@ word-short (Aborted x) = omega arith
 pub stop-line : (fault offset : ℕ) → widthOf fault ≤ 2 → length (stopLine fault offset) ≤ lastRoom
 unfolding stopLine
 stop-line fault offset h =
-    omega (arith, length-last (bytes "stopped " ++ decimal fault) offset, length-append (bytes "stopped ") (decimal fault), length-decimal fault, width-small offset)
+    let word : List ℕ = bytes "stopped " in
+    omega (arith, length-last (word ++ decimal fault) offset, length-append word (decimal fault), length-decimal fault, width-small offset)
 
 pub end-line : (whole : Bool) (calls offset : ℕ) → length (endLine whole calls offset) ≤ lastRoom
 unfolding endLine

@@ -2,7 +2,7 @@
 use Prim.Native.Nat.{ℕ, zero, suc, _+_, _-_, _≤_, _<_}
 use native.Mathlib.Omega.{arith}
 use mathlib.Core.Bool.{Bool, true, false, cond, true≢false}
-use mathlib.Core.Path.{_≡_, refl, ap, sym, _∙_, subst}
+use mathlib.Core.Path.{_≡_, refl, ap, subst}
 use mathlib.Core.List.{List, []}
 use lib.Dec.{ltb, leb, eqb}
 use lib.ListN.{length, take, drop, getD, length-drop}
@@ -76,7 +76,8 @@ module _ (records count start : ℕ) (t : Tables) (b : List ℕ) where
   setup-lent h g = simp (le-ltb 0 records h, le-ltb mostRecords count g)
 
 -- it lends at most 1024 records
-records-few : (c : Call) (b : List ℕ) (records : ℕ) (t : Tables) → records ≤ mostRecords → recordsAfter records c (performed records t c b .answer) ≤ mostRecords
+records-few : (c : Call) (b : List ℕ) (records : ℕ) (t : Tables) → records ≤ mostRecords
+    → recordsAfter records c (performed records t c b .answer) ≤ mostRecords
 records-few (Setup count start) b records t h =
     cond-ind (λ (n : ℕ). n ≤ mostRecords) (eqb (kind answer) ready) (λ e. given (eqb-true _ _ e) (leb count mostRecords) refl) (λ _. h)
   where

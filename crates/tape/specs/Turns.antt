@@ -7,7 +7,6 @@ use lib.Dec.{leb}
 use lib.ListN.{length, drop}
 use lib.Seq.{sets}
 use Rattle.text.specs.Text.{putIn}
-use Rattle.rules.specs.Layout.{mostRecords}
 use Rattle.rules.specs.Tables.{Tables}
 use Rattle.tape.specs.declared.Progress.{Progress}
 use Rattle.tape.specs.declared.Tally.{Tally}
@@ -55,7 +54,6 @@ pub record Ran (f : Fed) (part : List ℕ) (offset from : ℕ) (buffer : List �
   pub at : offset + r .used ≡ f .kept .offset
   pub calls : r .calls ≡ f .kept .calls
   pub records : r .records ≡ f .kept .records
-  pub few : r .records ≤ mostRecords
   pub stopped : r .stopped ≡ f .stopped
   pub end : r .end ≡ capped from (length (f .text))
   pub tables : after ≡ f .kept .tables

@@ -65,7 +65,7 @@ pub const SEATS: usize = SEATS_LENGTH as usize;
 
 const PLAN: usize = PLAN_WIDTH as usize;
 
-const VERSION: u8 = 1;
+pub const VERSION: u8 = 1;
 
 // One line for an answer.
 fn say(out: &mut [u8], at: usize, n: u64, a: Answer) -> usize
@@ -95,12 +95,12 @@ fn plan_of(b: &[u8]) -> [u64; 32]
 const READY: u64 = 0;
 
 // Numbers beyond this are too near the end of 64 bits to count on: 2^62.
-const FAR_OFF: u64 = 4611686018427387904;
+pub const FAR_OFF: u64 = 4611686018427387904;
 
 // A call of k bytes prints at most 13 k, and a last line 40.
-const LINE_ROOM: usize = 13;
+pub const LINE_ROOM: usize = 13;
 
-const LAST_ROOM: usize = 40;
+pub const LAST_ROOM: usize = 40;
 
 // Setup, as the tape allows it: once, and of at most 1024 records.
 fn set_up(

@@ -1,4 +1,5 @@
 -- `flow::finish` meets its contract. Assumes nothing.
+use mathlib.Core.Path.{refl}
 use borrow.Author.Needs.{needs}
 use Rattle.flow.proofs.Standing.{ends-stopped, ends-begun, ends-unbegun}
 use Rattle.flow.proofs.finish.Statement.{statement}
@@ -12,7 +13,7 @@ returns-2 c =
     let at-line : tie.After-finish = search in
     let at-begun : tie.Then2 = search (at-line) in
     let at-going : tie.Else1 = search (at-begun) in
-    ends-begun _ _ (at-going .if1 .left) (at-begun .if2 .taken) (at-line .finish .ensures)
+    ends-begun _ _ (at-going .if1 .left) (at-begun .if2 .taken) (at-line .finish .ensures) refl
 
 returns-3 : tie.Need-returns-3
 returns-3 c =

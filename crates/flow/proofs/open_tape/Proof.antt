@@ -1,7 +1,6 @@
 -- `flow::open_tape` meets its contract. Assumes nothing.
 use native.Mathlib.Omega.{arith}
 use borrow.Author.Needs.{needs}
-use denote.Ref.{now}
 use Rattle.tape.specs.Room.{fit}
 use Rattle.flow.proofs.Standing.{fit-from, waits-on, calls-behind, other-version}
 use Rattle.flow.proofs.open_tape.Statement.{statement}

@@ -15,7 +15,8 @@ use Rattle.flow.proofs.step.Tie as tie
 abbrev start : tie.After-is-unfit → tie.Start
 start c = c .before .before .before .before .before .before .before
 
-asked : (c : tie.After-is-unfit) → let a = start c .args in c .is-unfit .result ≡ unready (a .f) (now (a .buf)) (a .to) (now (a .values)) (now (a .words)) (now (a .out))
+asked : (c : tie.After-is-unfit) → let a = start c .args in
+    c .is-unfit .result ≡ unready (a .f) (now (a .buf)) (a .to) (now (a .values)) (now (a .words)) (now (a .out))
 asked c = let at-tally : tie.After-tally = search in rw (at-tally .tally .ensures) at (c .is-unfit .ensures)
 
 -- unfit

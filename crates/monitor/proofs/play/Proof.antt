@@ -1,11 +1,11 @@
 -- `monitor::play` meets its contract: whenever the loop's test is reached, the lengths are what they were, and the flow is ready for as many turns
 -- as are to come. Assumes nothing.
-use Prim.Native.Nat.{_≤_, _<_}
+use Prim.Native.Nat.{_≤_}
 use native.Mathlib.Omega.{arith}
 use mathlib.Core.Path.{_≡_, refl}
 use borrow.Author.Needs.{needs}
 use lib.ListN.{length}
-use Rattle.monitor.specs.Program.{Lent, Ready}
+use Rattle.monitor.specs.Program.{inputLength, Ready}
 use Rattle.monitor.proofs.Pumping.{ready-first, ready-once, ready-next}
 use Rattle.monitor.proofs.play.Statement.{statement}
 use Rattle.monitor.proofs.play.Tie as tie
@@ -69,13 +69,14 @@ loop-again c =
     let at-pump : tie.After-pump Inv-loop μ-loop = search in
     let at-fill : tie.After-fill Inv-loop μ-loop = search (at-pump) in
     let in-loop : tie.In-loop Inv-loop μ-loop = search (at-fill) in
-    let inv = in-loop .before .loop .inv in (
+    let inv = in-loop .before .loop .inv in
+    let within : at-fill .fill .result .to ≤ inputLength = omega (arith, start-of in-loop .pre .input, at-fill .fill .ensures .within) in (
       omega (arith, inv),
       omega (arith, inv),
       omega (arith, inv),
       omega (arith, inv, at-seats .seats .given),
       omega (arith, inv),
-      ready-next (in-loop .before .loop .turns) (omega arith) (inv .5) (omega (arith, start-of in-loop .pre .input, at-fill .fill .ensures .within)) (at-pump .pump .ensures) (c .if4 .left),
+      ready-next (in-loop .before .loop .turns) (omega arith) (inv .5) within (at-pump .pump .ensures) (c .if4 .left),
     )
 
 pub play-spec : {M : Type 1} → statement M

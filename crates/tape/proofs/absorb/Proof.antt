@@ -1,8 +1,8 @@
 -- `tape::absorb` meets its contract. Assumes nothing.
-use Prim.Native.Nat.{ℕ, _-_, _≤_}
+use Prim.Native.Nat.{_-_, _≤_}
 use native.Mathlib.Omega.{arith}
 use native.Mathlib.Nat.{le-refl}
-use mathlib.Core.Path.{_≡_, refl, sym, ap, _∙_}
+use mathlib.Core.Path.{_≡_, refl, sym, _∙_}
 use mathlib.Core.Bool.{false, true≢false}
 use denote.Ref.{now}
 use lib.ListN.{length, drop, length-drop}
@@ -104,8 +104,8 @@ returns-2 c =
     let ran = at-feed .feed .ensures in
     let roomy = room (length p) s p (le-refl (length p)) in
     let left =
-        took (now (a .buf)) (now (a .out)) (a .from) (a .to) (a .k) _ (at-feed .feed .result) _ _ _ _ ran (g .behind) (g .inside) _ (at-shift .shift .ensures)
-        (omega (arith, roomy, part-length fine, g .roomy)) (omega (arith, start fine .good)) in
+    took (now (a .buf)) (now (a .out)) (a .from) (a .to) (a .k) _ (at-feed .feed .result) _ _ _ _ ran (g .behind) (g .inside) _ (at-shift .shift .ensures)
+    (omega (arith, roomy, part-length fine, g .roomy)) (omega (arith, start fine .good)) in
     record {
       done = λ _. record { answer-is = left .answer-is; buffer-is = left .buffer-is; tables-are = left .tables-are; out-is = left .out-is };
       refused = λ e. absurd (true≢false (sym e ∙ good fine));

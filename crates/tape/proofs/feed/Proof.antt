@@ -81,7 +81,7 @@ returns c =
     let h : length (drop (L .used) part) ≤ length part - L .used = omega (arith, length-drop (L .used) part) in
     let k = rw (c .before .before .before .before .before .before .before .before .before .before .before .before .before .before .before .before .before .kept .ensures, take-all (length part - L .used) (drop (L .used) part) h) at (c .before .before .before .before .before .before .before .before .before .before .before .take-turn .ensures) in
     rw (c .so-far .ensures)
-    (ran-waits _ part _ _ _ _ (L .calls) (L .used) (L .records) (L .end) (tables (L .values) (L .words) (L .seats)) (L .out) _ _ (omega (arith, L .inv)) (omega (arith, c .before .before .before .before .before .before .before .before .before .before .before .before .before .before .before .before .before .before .before .before .before .before .before .before .before .good)) (L .inv .7) (L .inv .0) (L .inv .3) (L .inv .8)
+    (ran-waits _ part _ _ _ _ (L .calls) (L .used) (L .records) (L .end) (tables (L .values) (L .words) (L .seats)) (L .out) _ _ (omega (arith, L .inv)) (omega (arith, c .before .before .before .before .before .before .before .before .before .before .before .before .before .before .before .before .before .before .before .before .before .before .before .before .before .good)) (L .inv .7) (L .inv .0) (L .inv .8)
     (rw (c .before .enum-told .given .1) at k))
 
 enum-known-t : tie.Need-enum-known-t Inv-loop μ-loop
@@ -113,7 +113,7 @@ returns-2 c =
     let h : length (drop (L .used) part) ≤ length part - L .used = omega (arith, length-drop (L .used) part) in
     let k = rw (c .before .before .before .before .before .before .before .before .before .before .before .before .before .before .before .before .before .before .before .kept .ensures, take-all (length part - L .used) (drop (L .used) part) h) at (c .before .before .before .before .before .before .before .before .before .before .before .before .before .take-turn .ensures) in
     rw (c .so-far2 .ensures)
-    (ran-stops _ part _ _ _ _ (L .calls) (L .used) (L .records) (L .end) (tables (L .values) (L .words) (L .seats)) (L .out) _ _ (omega (arith, L .inv)) (omega (arith, c .before .before .before .before .before .before .before .before .before .before .before .before .before .before .before .before .before .before .before .before .before .before .before .before .before .before .before .good)) (L .inv .7) (L .inv .0) (L .inv .3) (L .inv .8) _ _
+    (ran-stops _ part _ _ _ _ (L .calls) (L .used) (L .records) (L .end) (tables (L .values) (L .words) (L .seats)) (L .out) _ _ (omega (arith, L .inv)) (omega (arith, c .before .before .before .before .before .before .before .before .before .before .before .before .before .before .before .before .before .before .before .before .before .before .before .before .before .before .before .good)) (L .inv .7) (L .inv .0) (L .inv .8) _ _
     (rw (c .before .before .before .t .given .1) at k) (c .before .sum .ensures))
 
 enum-known-t-2 : tie.Need-enum-known-t-2 Inv-loop μ-loop
@@ -195,7 +195,7 @@ returns-3 : tie.Need-returns-3 Inv-loop μ-loop
 returns-3 c =
     let L = c .before .before .loop in
     rw (c .so-far3 .ensures)
-    (ran-all _ (now (c .before .before .before .before .before .before .before .before .args .part)) _ _ _ _ (L .calls) (L .used) (L .records) (L .end) (tables (L .values) (L .words) (L .seats)) (L .out) (omega (arith, c .before .before .before .before .before .before .before .before .good)) (L .inv .7) (L .inv .0) (L .inv .3) (omega arith)
+    (ran-all _ (now (c .before .before .before .before .before .before .before .before .args .part)) _ _ _ _ (L .calls) (L .used) (L .records) (L .end) (tables (L .values) (L .words) (L .seats)) (L .out) (omega (arith, c .before .before .before .before .before .before .before .before .good)) (L .inv .7) (L .inv .0) (omega arith)
     (L .inv .8))
 
 pub feed-spec : {M : Type 1} → statement M

@@ -34,7 +34,11 @@ unfolding unfit oneOf
 returns-3 c =
     let e2 : tie.Else2 = search in
     let e1 : tie.Else1 = search (e2) in
-    simp (lt-ltb _ _ (c .if3 .taken), le-ltb _ _ (e2 .if2 .left), le-ltb _ _ (e1 .if1 .left))
+    simp (
+      lt-ltb _ _ (c .if3 .taken),
+      le-ltb _ _ (e2 .if2 .left),
+      le-ltb _ _ (e1 .if1 .left),
+    )
 
 returns-4 : tie.Need-returns-4
 unfolding unfit oneOf
@@ -42,7 +46,12 @@ returns-4 c =
     let e3 : tie.Else3 = search in
     let e2 : tie.Else2 = search (e3) in
     let e1 : tie.Else1 = search (e2) in
-    simp (lt-ltb _ _ (c .if4 .taken), le-ltb _ _ (e3 .if3 .left), le-ltb _ _ (e2 .if2 .left), le-ltb _ _ (e1 .if1 .left))
+    simp (
+      lt-ltb _ _ (c .if4 .taken),
+      le-ltb _ _ (e3 .if3 .left),
+      le-ltb _ _ (e2 .if2 .left),
+      le-ltb _ _ (e1 .if1 .left),
+    )
 
 returns-5 : tie.Need-returns-5
 unfolding unfit oneOf
@@ -51,7 +60,13 @@ returns-5 c =
     let e3 : tie.Else3 = search (e4) in
     let e2 : tie.Else2 = search (e3) in
     let e1 : tie.Else1 = search (e2) in
-    simp (lt-ltb _ _ (c .if5 .taken), le-ltb _ _ (e4 .if4 .left), le-ltb _ _ (e3 .if3 .left), le-ltb _ _ (e2 .if2 .left), le-ltb _ _ (e1 .if1 .left))
+    simp (
+      lt-ltb _ _ (c .if5 .taken),
+      le-ltb _ _ (e4 .if4 .left),
+      le-ltb _ _ (e3 .if3 .left),
+      le-ltb _ _ (e2 .if2 .left),
+      le-ltb _ _ (e1 .if1 .left),
+    )
 
 returns-6 : tie.Need-returns-6
 unfolding unfit oneOf
@@ -61,7 +76,14 @@ returns-6 c =
     let e3 : tie.Else3 = search (e4) in
     let e2 : tie.Else2 = search (e3) in
     let e1 : tie.Else1 = search (e2) in
-    simp (ne-eqb _ _ (c .if6 .taken), le-ltb _ _ (e5 .if5 .left), le-ltb _ _ (e4 .if4 .left), le-ltb _ _ (e3 .if3 .left), le-ltb _ _ (e2 .if2 .left), le-ltb _ _ (e1 .if1 .left))
+    simp (
+      ne-eqb _ _ (c .if6 .taken),
+      le-ltb _ _ (e5 .if5 .left),
+      le-ltb _ _ (e4 .if4 .left),
+      le-ltb _ _ (e3 .if3 .left),
+      le-ltb _ _ (e2 .if2 .left),
+      le-ltb _ _ (e1 .if1 .left),
+    )
 
 returns-7 : tie.Need-returns-7
 unfolding unfit oneOf
@@ -72,7 +94,15 @@ returns-7 c =
     let e3 : tie.Else3 = search (e4) in
     let e2 : tie.Else2 = search (e3) in
     let e1 : tie.Else1 = search (e2) in
-    simp (ne-eqb _ _ (c .if7 .taken), eq-eqb _ _ (e6 .if6 .left), le-ltb _ _ (e5 .if5 .left), le-ltb _ _ (e4 .if4 .left), le-ltb _ _ (e3 .if3 .left), le-ltb _ _ (e2 .if2 .left), le-ltb _ _ (e1 .if1 .left))
+    simp (
+      ne-eqb _ _ (c .if7 .taken),
+      eq-eqb _ _ (e6 .if6 .left),
+      le-ltb _ _ (e5 .if5 .left),
+      le-ltb _ _ (e4 .if4 .left),
+      le-ltb _ _ (e3 .if3 .left),
+      le-ltb _ _ (e2 .if2 .left),
+      le-ltb _ _ (e1 .if1 .left),
+    )
 
 returns-8 : tie.Need-returns-8
 unfolding unfit oneOf
@@ -85,7 +115,16 @@ returns-8 c =
     let e2 : tie.Else2 = search (e3) in
     let e1 : tie.Else1 = search (e2) in
     let start : tie.Start = search (e1) in
-    simp (lt-ltb (start .args .out) (roomFor (start .args .to)) (omega (arith, c .if8 .taken)), eq-eqb _ _ (e7 .if7 .left), eq-eqb _ _ (e6 .if6 .left), le-ltb _ _ (e5 .if5 .left), le-ltb _ _ (e4 .if4 .left), le-ltb _ _ (e3 .if3 .left), le-ltb _ _ (e2 .if2 .left), le-ltb _ _ (e1 .if1 .left))
+    simp (
+      lt-ltb (start .args .out) (roomFor (start .args .to)) (omega (arith, c .if8 .taken)),
+      eq-eqb _ _ (e7 .if7 .left),
+      eq-eqb _ _ (e6 .if6 .left),
+      le-ltb _ _ (e5 .if5 .left),
+      le-ltb _ _ (e4 .if4 .left),
+      le-ltb _ _ (e3 .if3 .left),
+      le-ltb _ _ (e2 .if2 .left),
+      le-ltb _ _ (e1 .if1 .left),
+    )
 
 returns-9 : tie.Need-returns-9
 unfolding unfit oneOf
@@ -98,7 +137,16 @@ returns-9 c =
     let e2 : tie.Else2 = search (e3) in
     let e1 : tie.Else1 = search (e2) in
     let start : tie.Start = search (e1) in
-    simp (room-test (start .args .out) (start .args .to) (c .if8 .left), eq-eqb _ _ (e7 .if7 .left), eq-eqb _ _ (e6 .if6 .left), le-ltb _ _ (e5 .if5 .left), le-ltb _ _ (e4 .if4 .left), le-ltb _ _ (e3 .if3 .left), le-ltb _ _ (e2 .if2 .left), le-ltb _ _ (e1 .if1 .left))
+    simp (
+      room-test (start .args .out) (start .args .to) (c .if8 .left),
+      eq-eqb _ _ (e7 .if7 .left),
+      eq-eqb _ _ (e6 .if6 .left),
+      le-ltb _ _ (e5 .if5 .left),
+      le-ltb _ _ (e4 .if4 .left),
+      le-ltb _ _ (e3 .if3 .left),
+      le-ltb _ _ (e2 .if2 .left),
+      le-ltb _ _ (e1 .if1 .left),
+    )
 
 pub is-unfit-spec : {M : Type 1} → statement M
 is-unfit-spec =
