@@ -55,8 +55,8 @@ module _ (b : Known) where
       (cond late 5 0))
 
   -- Read and Write come too late once the seat's first Advance was answered, Abandon once it is Sealed, and Advance never
-  abbrev pub advanced : ℕ → Bool
-  advanced s = leb 1 (made (b .seat s))
+  abbrev pub hasAdvanced : ℕ → Bool
+  hasAdvanced s = leb 1 (made (b .seat s))
 
   -- 8: sixteen records first read, and this one neither read nor written. 10: it is neither read nor written here, and some seat holds it
   unfoldable pub readDue : ℕ → ℕ → ℕ
@@ -69,7 +69,7 @@ module _ (b : Known) where
   unfoldable pub writeDue : ℕ → ℕ → ℕ
   writeDue s x = cond (b .seat s .wrote x) 0 (cond (leb mostWrites (w (b .seat s))) 9 0)
 
-  -- Open: 2, no owner; 6, at its limit; 7, at its share or above, and no seat is left that is kept back for nobody
+  -- Open: 2, no owner; 6, at its limit; 7, at its share or above, and the unreserved seats are taken
   unfoldable pub openDue : ℕ → ℕ
   openDue o =
       cond (leb owners o) 2
@@ -80,8 +80,8 @@ module _ (b : Known) where
   unfoldable pub due : Call → ℕ
   due (Setup start plan) = cond (ltb top start) 2 (cond (badPlan plan) 11 0)
   due (Open o) = openDue o
-  due (Read o s x) = orElse (seatDue o s x (advanced s)) (readDue s x)
-  due (Write o s x value) = orElse (seatDue o s x (advanced s)) (writeDue s x)
+  due (Read o s x) = orElse (seatDue o s x (hasAdvanced s)) (readDue s x)
+  due (Write o s x value) = orElse (seatDue o s x (hasAdvanced s)) (writeDue s x)
   due (Advance o s) = seatDue o s 0 false
   due (Abandon o s) = seatDue o s 0 (b .seat s .isSealed)
 
