@@ -111,14 +111,15 @@ fn play(buf: &mut [u8], values: &mut [u64], words: &mut [u64], seats: &mut [u64]
     complain(b"monitor: the tape is too long\n");
 }
 
+// The buffers say their own lengths; that these are the lengths that `play` asks for is shown where it is called.
 fn input_buffer() -> [u8; INPUT]
-    ensures { λ r. ⌜ inputLength ≡ length r ⌝ }
+    ensures { λ r. do ⌜ (← ⟦INPUT⟧ .entry) ≡ length r ⌝ }
 {
     [0; INPUT]
 }
 
 fn output_buffer() -> [u8; OUTPUT]
-    ensures { λ r. ⌜ outputLength ≡ length r ⌝ }
+    ensures { λ r. do ⌜ (← ⟦OUTPUT⟧ .entry) ≡ length r ⌝ }
 {
     [0; OUTPUT]
 }

@@ -2,12 +2,11 @@
 use Prim.Native.Nat.{ℕ}
 use mathlib.Core.Path.{sym}
 use lib.ListN.{length-replicate}
-use Rattle.monitor.specs.Program.{outputLength}
 use Rattle.monitor.proofs.output_buffer.Statement.{statement}
 use Rattle.monitor.proofs.output_buffer.Tie as tie
 
 returns : tie.Need-returns
-returns c = sym (length-replicate {0} {A = ℕ} outputLength 0)
+returns c = sym (length-replicate {0} {A = ℕ} _ 0)
 
 pub output-buffer-spec : {M : Type 1} → statement M
 output-buffer-spec = tie.close (tie.spec returns)
