@@ -4,6 +4,7 @@ pub mod Tests
 pub mod Layout
 pub mod Answers
 pub mod Tables
+pub mod Lent
 pub mod Refusals
 pub mod Plan
 pub mod Work

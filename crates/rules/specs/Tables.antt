@@ -18,7 +18,20 @@ pub record Outcome : Type 0 where
 abbrev pub tables : List ℕ → List ℕ → List ℕ → Tables
 tables values words seats = record { values = values; words = words; seats = seats }
 
+-- the tables with another content of one of them
+abbrev pub withValues : Tables → List ℕ → Tables
+withValues t values = record { values = values; words = t .words; seats = t .seats }
+
+abbrev pub withWords : Tables → List ℕ → Tables
+withWords t words = record { values = t .values; words = words; seats = t .seats }
+
+abbrev pub withSeats : Tables → List ℕ → Tables
+withSeats t seats = record { values = t .values; words = t .words; seats = seats }
+
 -- an answer, with the tables as they are after it
+abbrev pub answered : Answer → Tables → Outcome
+answered a t = record { answer = a; tables = t }
+
 abbrev pub after : Answer → List ℕ → List ℕ → List ℕ → Outcome
 after a values words seats = record { answer = a; tables = tables values words seats }
 
