@@ -7,7 +7,8 @@ ghost use lib.Dec.{eqb, leb};
 ghost use lib.ListN.{length};
 ghost use Rattle.clock.specs.Word.{top, writeTime, fresh, extended};
 ghost use Rattle.rules.specs.Layout.{mostReads, mostWrites, positionAt, row, put, time as timeOf};
-ghost use Rattle.rules.specs.Tables.{tables, after};
+ghost use Rattle.rules.specs.Tables.{Tables};
+ghost use Rattle.rules.specs.Lent.{lent, left, lentLocks, leftLocks, lentSeats, leftSeats};
 ghost use Rattle.rules.specs.Advance.{released, letGo, moved, lockStep, seenTime, dueTime, timeStep, checkStep, sealStep, storeStep, doneStep};
 ghost use Rattle.rules.specs.Advance.{lockPhase, checkPhase, storePhase, advanceIn};
 ghost use Rattle.rules.specs.declared.Answer.{Answer};
@@ -57,7 +58,7 @@ fn held_locks(head: Head) -> u64
 
 fn let_go(words: &mut [u64], seats: &mut [u64], seat: u64, head: Head)
     requires { ⌜ Ready (row (now seats) seat) (length (now words)) head × (head .phase ≤ 3) ⌝ }
-    ensures { λ _. ⌜ ((v : List ℕ) (a : Answer) → after a v (now (words .exit)) (now (seats .exit)) ≡ letGo (tables v (now (words .entry)) (now (seats .entry))) seat a) ⌝ }
+    ensures { λ _. ⌜ ((t : Tables) (a : Answer) → leftLocks t a words seats ≡ letGo (lentLocks t words seats) seat a) ⌝ }
 {
     let held = held_locks(head);
     release(words, row_of(seats, seat), held);
@@ -66,7 +67,7 @@ fn let_go(words: &mut [u64], seats: &mut [u64], seat: u64, head: Head)
 
 fn abort(words: &mut [u64], seats: &mut [u64], seat: u64, head: Head, why: u64) -> Answer
     requires { ⌜ Ready (row (now seats) seat) (length (now words)) head × (head .phase ≤ 3) ⌝ }
-    ensures { λ r. ⌜ ((v : List ℕ) → after r v (now (words .exit)) (now (seats .exit)) ≡ letGo (tables v (now (words .entry)) (now (seats .entry))) seat (Aborted why)) ⌝ }
+    ensures { λ r. ⌜ ((t : Tables) → leftLocks t r words seats ≡ letGo (lentLocks t words seats) seat (Aborted why)) ⌝ }
 {
     let_go(words, seats, seat, head);
     Answer::Aborted(why)
@@ -82,7 +83,7 @@ fn move_to(seats: &mut [u64], seat: u64, phase: u64, position: u64)
 
 fn lock_step(words: &mut [u64], seats: &mut [u64], seat: u64, head: Head) -> Answer
     requires { ⌜ Ready (row (now seats) seat) (length (now words)) head × (head .phase ≤ 2) × (head .position < head .writes) ⌝ }
-    ensures { λ r. ⌜ ((v : List ℕ) → after r v (now (words .exit)) (now (seats .exit)) ≡ lockStep (tables v (now (words .entry)) (now (seats .entry))) seat) ⌝ }
+    ensures { λ r. ⌜ ((t : Tables) → leftLocks t r words seats ≡ lockStep (lentLocks t words seats) seat) ⌝ }
 {
     let item = at(
         row_of(seats, seat),
@@ -128,7 +129,7 @@ fn due_time(words: &[u64], row: &[u64], from: u64, n: u64) -> u64
 
 fn time_step(words: &mut [u64], seats: &mut [u64], seat: u64, head: Head) -> Answer
     requires { ⌜ Ready (row (now seats) seat) (length (now words)) head × (head .phase ≤ 2) ⌝ }
-    ensures { λ r. ⌜ ((v : List ℕ) → after r v (now (words .exit)) (now (seats .exit)) ≡ timeStep (tables v (now (words .entry)) (now (seats .entry))) seat) ⌝ }
+    ensures { λ r. ⌜ ((t : Tables) → leftLocks t r words seats ≡ timeStep (lentLocks t words seats) seat) ⌝ }
 {
     let row = row_of(seats, seat);
     let time = due_time(words, row, seen_time(row, head.reads), head.writes);
@@ -197,7 +198,7 @@ fn check_word(
     wrote: u64,
 ) -> Answer
     requires { ⌜ Checks (row (now seats) seat) (length (now words)) head item wrote ⌝ }
-    ensures { λ r. ⌜ ((v : List ℕ) → after r v (now (words .exit)) (now (seats .exit)) ≡ checkStep (tables v (now (words .entry)) (now (seats .entry))) seat) ⌝ }
+    ensures { λ r. ⌜ ((t : Tables) → leftLocks t r words seats ≡ checkStep (lentLocks t words seats) seat) ⌝ }
 {
     let word = at(words, item);
     let row = row_of(seats, seat);
@@ -217,7 +218,7 @@ fn check_word(
 // Where the kept read time covers the time, the entry passes and nothing else is looked at.
 fn check_step(words: &mut [u64], seats: &mut [u64], seat: u64, head: Head) -> Answer
     requires { ⌜ Ready (row (now seats) seat) (length (now words)) head × (head .phase ≡ 3) × (head .position < head .reads) ⌝ }
-    ensures { λ r. ⌜ ((v : List ℕ) → after r v (now (words .exit)) (now (seats .exit)) ≡ checkStep (tables v (now (words .entry)) (now (seats .entry))) seat) ⌝ }
+    ensures { λ r. ⌜ ((t : Tables) → leftLocks t r words seats ≡ checkStep (lentLocks t words seats) seat) ⌝ }
 {
     let row = row_of(seats, seat);
     let item = at(row, READ_ITEM + READ_WIDTH * head.position);
@@ -230,7 +231,7 @@ fn check_step(words: &mut [u64], seats: &mut [u64], seat: u64, head: Head) -> An
 
 fn seal_step(seats: &mut [u64], seat: u64, time: u64) -> Answer
     requires { ⌜ time ≡ timeOf (row (now seats) seat) ⌝ }
-    ensures { λ r. ⌜ ((v w : List ℕ) → after r v w (now (seats .exit)) ≡ sealStep (tables v w (now (seats .entry))) seat) ⌝ }
+    ensures { λ r. ⌜ ((t : Tables) → leftSeats t r seats ≡ sealStep (lentSeats t seats) seat) ⌝ }
 {
     move_to(seats, seat, STORING, 0);
     Answer::Sealed(time)
@@ -256,7 +257,7 @@ fn store_step(
     head: Head,
 ) -> Answer
     requires { ⌜ Ready (row (now seats) seat) (length (now words)) head × (head .phase ≡ 4) × (head .position < head .writes) ⌝ }
-    ensures { λ r. ⌜ after r (now (values .exit)) (now (words .exit)) (now (seats .exit)) ≡ storeStep (tables (now (values .entry)) (now (words .entry)) (now (seats .entry))) seat ⌝ }
+    ensures { λ r. ⌜ left r values words seats ≡ storeStep (lent values words seats) seat ⌝ }
 {
     let row = row_of(seats, seat);
     let item = at(row, WRITE_ITEM + WRITE_WIDTH * head.position);
@@ -269,7 +270,7 @@ fn store_step(
 
 fn done_step(seats: &mut [u64], seat: u64, time: u64) -> Answer
     requires { ⌜ time ≡ timeOf (row (now seats) seat) ⌝ }
-    ensures { λ r. ⌜ ((v w : List ℕ) → after r v w (now (seats .exit)) ≡ doneStep (tables v w (now (seats .entry))) seat) ⌝ }
+    ensures { λ r. ⌜ ((t : Tables) → leftSeats t r seats ≡ doneStep (lentSeats t seats) seat) ⌝ }
 {
     free_row(seats, seat);
     Answer::Done(time)
@@ -278,7 +279,7 @@ fn done_step(seats: &mut [u64], seat: u64, time: u64) -> Answer
 // ADVANCE
 fn lock_phase(words: &mut [u64], seats: &mut [u64], seat: u64, head: Head) -> Answer
     requires { ⌜ Ready (row (now seats) seat) (length (now words)) head × (head .phase ≤ 2) ⌝ }
-    ensures { λ r. ⌜ ((v : List ℕ) → after r v (now (words .exit)) (now (seats .exit)) ≡ lockPhase (tables v (now (words .entry)) (now (seats .entry))) seat) ⌝ }
+    ensures { λ r. ⌜ ((t : Tables) → leftLocks t r words seats ≡ lockPhase (lentLocks t words seats) seat) ⌝ }
 {
     let held = head.position;
     if held < head.writes {
@@ -289,7 +290,7 @@ fn lock_phase(words: &mut [u64], seats: &mut [u64], seat: u64, head: Head) -> An
 
 fn check_phase(words: &mut [u64], seats: &mut [u64], seat: u64, head: Head) -> Answer
     requires { ⌜ Ready (row (now seats) seat) (length (now words)) head × (head .phase ≡ 3) ⌝ }
-    ensures { λ r. ⌜ ((v : List ℕ) → after r v (now (words .exit)) (now (seats .exit)) ≡ checkPhase (tables v (now (words .entry)) (now (seats .entry))) seat) ⌝ }
+    ensures { λ r. ⌜ ((t : Tables) → leftLocks t r words seats ≡ checkPhase (lentLocks t words seats) seat) ⌝ }
 {
     if head.position < head.reads {
         return check_step(words, seats, seat, head);
@@ -305,7 +306,7 @@ fn store_phase(
     head: Head,
 ) -> Answer
     requires { ⌜ Ready (row (now seats) seat) (length (now words)) head × (head .phase ≡ 4) ⌝ }
-    ensures { λ r. ⌜ after r (now (values .exit)) (now (words .exit)) (now (seats .exit)) ≡ storePhase (tables (now (values .entry)) (now (words .entry)) (now (seats .entry))) seat ⌝ }
+    ensures { λ r. ⌜ left r values words seats ≡ storePhase (lent values words seats) seat ⌝ }
 {
     if head.position < head.writes {
         return store_step(values, words, seats, seat, head);
@@ -321,7 +322,7 @@ fn advance_in(
     head: Head,
 ) -> Answer
     requires { ⌜ Ready (row (now seats) seat) (length (now words)) head ⌝ }
-    ensures { λ r. ⌜ after r (now (values .exit)) (now (words .exit)) (now (seats .exit)) ≡ advanceIn (tables (now (values .entry)) (now (words .entry)) (now (seats .entry))) seat ⌝ }
+    ensures { λ r. ⌜ left r values words seats ≡ advanceIn (lent values words seats) seat ⌝ }
 {
     let phase = head.phase;
     match phase {
@@ -341,10 +342,7 @@ pub fn advance(
     owner: u64,
     seat: u64,
 ) -> Answer
-    ensures { λ r. ⌜
-        AdvanceAnswered (now (values .entry)) (now (words .entry)) (now (seats .entry)) owner seat
-        r (now (values .exit)) (now (words .exit)) (now (seats .exit))
-        ⌝ }
+    ensures { λ r. ⌜ AdvanceAnswered (lent values words seats) owner seat (left r values words seats) ⌝ }
 {
     let why = refusal_of(values, words, seats, owner, seat, 0, STORING);
     if why != 0 {
@@ -362,10 +360,7 @@ pub fn abandon(
     owner: u64,
     seat: u64,
 ) -> Answer
-    ensures { λ r. ⌜
-        AbandonAnswered (now (values .entry)) (now (words .entry)) (now (seats .entry)) owner seat
-        r (now (words .exit)) (now (seats .exit))
-        ⌝ }
+    ensures { λ r. ⌜ AbandonAnswered (lent values words seats) owner seat (left r values words seats) ⌝ }
 {
     let why = refusal_of(values, words, seats, owner, seat, 0, CHECKING);
     if why != 0 {

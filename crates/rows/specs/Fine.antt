@@ -13,7 +13,7 @@ use Rattle.rules.specs.Tests.{any, oneOf, firstOf}
 use Rattle.rules.specs.Layout.{owners, seatCount, mostRecords, mostReads, mostWrites, rowWidth, seatsLength, row, phase, owner, position, reads, writes, time, readItem, keptWrite, writeItem}
 use Rattle.rules.specs.Places.{length-row}
 use Rattle.rules.specs.Tables.{Tables}
-use Rattle.rules.specs.Refusals.{unsized, misnamed, misplaced, late, badRead, badWrite, damaged, foreign, refusal}
+use Rattle.rules.specs.Refusals.{unsized, misnamed, misplaced, late, badRead, badWrite, badHead, badEntry, damaged, foreign, rowRefusal, refusal, recordRefusal}
 use Rattle.rules.specs.Advance.{heldLocks}
 use Rattle.rows.specs.Search.{none-at}
 
@@ -42,6 +42,11 @@ unfolding firstOf
 first-none k [] e = tt
 first-none k (true ∷ bs) e = absurd (omega arith)
 first-none k (false ∷ bs) e = (refl, first-none (suc k) bs e)
+
+-- a refusal that is not given: its test fails, and none of a higher number is given
+pub not-given : (b : Bool) (k : ℕ) {n : ℕ} → cond b (suc k) n ≡ 0 → (b ≡ false) × (n ≡ 0)
+not-given true k e = absurd (omega arith)
+not-given false k e = (refl, e)
 
 -- THE TABLES have the right lengths
 pub record Sized (t : Tables) : Type 0 where
@@ -74,18 +79,20 @@ pub record Sound (g : List ℕ) (records : ℕ) : Type 0 where
   pub good-writes : any (badWrite g records) (writes g) ≡ false
 
 pub sound-of : (g : List ℕ) (records : ℕ) → damaged g records ≡ false → phase g ≢ 0 → Sound g records
-unfolding damaged
+unfolding damaged badHead badEntry
 sound-of g records e used =
-    let r = none-of _ (rw (ne-eqb _ _ used) at e) in
+    let both = none-of _ (rw (ne-eqb _ _ used) at e) in
+    let head = none-of _ (both .0) in
+    let entries = none-of _ (both .1 .0) in
     record {
-      phase-in = ltb-false _ _ (r .0);
-      owner-in = leb-false _ _ (r .1 .0);
-      reads-in = ltb-false _ _ (r .1 .1 .0);
-      writes-in = ltb-false _ _ (r .1 .1 .1 .0);
-      placed = r .1 .1 .1 .1 .0;
-      timely = r .1 .1 .1 .1 .1 .0;
-      good-reads = r .1 .1 .1 .1 .1 .1 .0;
-      good-writes = r .1 .1 .1 .1 .1 .1 .1 .0;
+      phase-in = ltb-false _ _ (head .0);
+      owner-in = leb-false _ _ (head .1 .0);
+      reads-in = ltb-false _ _ (head .1 .1 .0);
+      writes-in = ltb-false _ _ (head .1 .1 .1 .0);
+      placed = head .1 .1 .1 .1 .0;
+      timely = head .1 .1 .1 .1 .1 .0;
+      good-reads = entries .0;
+      good-writes = entries .1 .0;
     }
 
 module _ (g : List ℕ) (records : ℕ) (h : Sound g records) where
@@ -137,34 +144,49 @@ module _ (g : List ℕ) (records : ℕ) (h : Sound g records) where
   locks-small d l = cond-ind (λ (n : ℕ). n ≤ writes g) (eqb (phase g) 3) (λ e. omega arith) (λ e. let q : phase g ≢ 3 = eqb-false _ _ e in placed-low d (omega arith))
 
 -- A CALL THAT NAMES A SEAT and is not refused
-pub record Fine (t : Tables) (o s item last : ℕ) : Type 0 where
+pub record Fine (t : Tables) (o s last : ℕ) : Type 0 where
   pub sized : Sized t
   pub owner-in : o < owners
   pub seat-in : s < seatCount
-  pub item-in : item < length (t .words)
   pub used : phase (row (t .seats) s) ≢ 0
   pub sound : Sound (row (t .seats) s) (length (t .words))
   pub own : owner (row (t .seats) s) ≡ o
   pub phase-in : phase (row (t .seats) s) ≤ last
 
-pub fine : (t : Tables) (o s item last : ℕ) → refusal t o s item last ≡ 0 → Fine t o s item last
-unfolding refusal foreign misnamed
-fine t o s item last e =
-    let r = first-none 0 _ e in
-    let named = none-of _ (r .1 .0) in
-    let mine = none-of _ (r .1 .1 .1 .0) in
+-- the tests that it passed: the lengths, what it names, and the row's
+not-refused : (t : Tables) (o s : ℕ) (unknown : Bool) (last : ℕ) → refusal t o s unknown last ≡ 0 →
+    (unsized (length (t .values)) (length (t .words)) (length (t .seats)) ≡ false)
+    × (misnamed o s unknown ≡ false)
+    × (rowRefusal (row (t .seats) s) (length (t .words)) o last ≡ 0)
+unfolding refusal
+not-refused t o s unknown last e =
+    let sized = not-given _ 0 e in
+    let named = not-given _ 1 (sized .1) in
+    (sized .0, named .0, named .1)
+
+pub fine : (t : Tables) (o s : ℕ) (unknown : Bool) (last : ℕ) → refusal t o s unknown last ≡ 0 → Fine t o s last
+unfolding rowRefusal foreign misnamed
+fine t o s unknown last e =
+    let passed = not-refused t o s unknown last e in
+    let named = none-of _ (passed .1) in
+    let r = first-none 2 _ (passed .2) in
+    let mine = none-of _ (r .1 .0) in
     let used = eqb-false _ _ (mine .0) in
     record {
-      sized = sized-of t (r .0);
+      sized = sized-of t (passed .0);
       owner-in = leb-false _ _ (named .0);
       seat-in = leb-false _ _ (named .1 .0);
-      item-in = leb-false _ _ (named .1 .1 .0);
       used = used;
-      sound = sound-of _ _ (r .1 .1 .0) used;
+      sound = sound-of _ _ (r .0) used;
       own = eqb-true _ _ (not-false _ (mine .1 .0));
-      phase-in = ltb-false _ _ (r .1 .1 .1 .1 .0);
+      phase-in = ltb-false _ _ (r .1 .1 .0);
     }
 
+-- where it names a record too, there is that record
+pub item-in : (t : Tables) (o s item last : ℕ) → recordRefusal t o s item last ≡ 0 → item < length (t .words)
+unfolding misnamed
+item-in t o s item last e = leb-false _ _ (none-of _ (not-refused t o s _ last e .1) .1 .1 .0)
+
 -- its row is whole
-pub fine-row : {t : Tables} {o s item last : ℕ} → Fine t o s item last → length (row (t .seats) s) ≡ rowWidth
+pub fine-row : {t : Tables} {o s last : ℕ} → Fine t o s last → length (row (t .seats) s) ≡ rowWidth
 fine-row {t} {s = s} f = length-row (t .seats) s (f .sized .rows) (f .seat-in)

@@ -8,13 +8,15 @@ use mathlib.Core.List.{List}
 use native.Mathlib.Omega.{arith}
 use borrow.Author.Tests.{ltb-false, ltb-true, leb-false, eqb-false, eq-eqb, ne-eqb}
 use lib.Dec.{leb}
+use lib.ListN.{length}
 use Rattle.rules.specs.Tests.{sumTo, count, any, first}
-use Rattle.rules.specs.Layout.{owners, seatCount, row, phase, owner, share}
+use Rattle.rules.specs.Layout.{owners, seatCount, row, phase, owner, share, limit}
 use Rattle.rules.specs.Tables.{Tables}
-use Rattle.rules.specs.Plan.{badRow, holds, held, claim, claims, unsound, crowded, openRefusal, isFree, freeSeat}
+use Rattle.rules.specs.Refusals.{unsized}
+use Rattle.rules.specs.Plan.{badRow, holds, held, claim, claims, unsound, crowded, ownerRefusal, planRefusal, openRefusal, isFree, freeSeat}
 use Rattle.rules.specs.Limits.{held-claim, share-claim}
 use Rattle.rows.specs.Search.{none-at}
-use Rattle.rows.specs.Fine.{none-of, first-none}
+use Rattle.rows.specs.Fine.{none-of, not-given}
 use Rattle.rows.specs.Sums.{sum-add, sum-has, sum-mono, sum-less}
 
 module _ (seats : List ℕ) where
@@ -62,12 +64,17 @@ module _ (seats : List ℕ) where
           omega arith
 
 pub seat-found : (t : Tables) (o : ℕ) → openRefusal t o ≡ 0 → freeSeat (t .seats) < seatCount
-unfolding openRefusal freeSeat
+unfolding openRefusal planRefusal ownerRefusal freeSeat
 seat-found t o e =
-    let r = first-none 0 _ e in
-    let l = leb-false owners o (r .1 .0) in
-    by-test (any (isFree (t .seats)) seatCount) refl (no-room (t .seats) o l (r .1 .1 .0) (r .1 .1 .1 .1 .1 .1 .0))
+    let seats : List ℕ = t .seats in
+    let sized = not-given (unsized (length (t .values)) (length (t .words)) (length seats)) 0 e in
+    let owner-in = not-given (leb owners o) 1 (sized .1) in
+    let sound = not-given (unsound seats) 2 (owner-in .1) in
+    let below = not-given (leb (limit seats o) (held seats o)) 5 (sound .1) in
+    let uncrowded = not-given (crowded seats o) 6 {n = 0} (below .1) in
+    by-test (any (isFree (t .seats)) seatCount) refl (no-room (t .seats) o (leb-false owners o (owner-in .0)) (sound .0) (uncrowded .0))
   where
-    by-test : (b : Bool) → any (isFree (t .seats)) seatCount ≡ b → (any (isFree (t .seats)) seatCount ≡ false → ⊥) → first (isFree (t .seats)) seatCount < seatCount
+    by-test : (b : Bool) → any (isFree (t .seats)) seatCount ≡ b → (any (isFree (t .seats)) seatCount ≡ false → ⊥) →
+        first (isFree (t .seats)) seatCount < seatCount
     by-test true q h = ltb-true _ _ q
     by-test false q h = absurd (h q)

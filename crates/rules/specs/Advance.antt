@@ -5,9 +5,10 @@ use mathlib.Core.Bool.{Bool, true, false, cond, not, _&&_}
 use lib.ListN.{getD, set}
 use lib.Dec.{eqb, ltb, leb}
 use Rattle.clock.specs.Word.{top, isLocked, writeTime, readTime, withLock, fresh, extended}
-use Rattle.rules.specs.Layout.{phaseAt, positionAt, timeAt, row, put, phase, position, reads, writes, time, readItem, keptWrite, keptRead, writeItem, writeValue}
-use Rattle.rules.specs.Tables.{Tables, Outcome, after, keep, unless}
-use Rattle.rules.specs.Refusals.{refusal}
+use Rattle.rules.specs.Layout.{working, locking, checking, storing, phaseAt, positionAt, timeAt, row, put}
+use Rattle.rules.specs.Layout.{phase, position, reads, writes, time, readItem, keptWrite, keptRead, writeItem, writeValue}
+use Rattle.rules.specs.Tables.{Tables, Outcome, withValues, withWords, withSeats, answered, unless}
+use Rattle.rules.specs.Refusals.{seatRefusal}
 use Rattle.rules.specs.Plan.{freed}
 use Rattle.rules.specs.Work.{writeOf}
 use Rattle.rules.specs.declared.Answer.{Answer}
@@ -15,9 +16,22 @@ use Rattle.rules.specs.declared.Answer.the-variants.{Locked, Timed, Chec
 use Rattle.rules.specs.declared.Verdict.{Verdict}
 use Rattle.rules.specs.declared.Verdict.the-variants.{Passes, Extends, Fails}
 
+-- the numbers of an abort
+abbrev pub wordLocked : ℕ
+wordLocked = 21
+
+abbrev pub versionGone : ℕ
+versionGone = 22
+
+abbrev pub wordBlocked : ℕ
+wordBlocked = 23
+
+abbrev pub timeRunOut : ℕ
+timeRunOut = 24
+
 -- how many of its write entries a row in phases 1 to 3 holds the locks of: the first `position`, in phase 3 all
 unfoldable pub heldLocks : List ℕ → ℕ
-heldLocks g = cond (eqb (phase g) 3) (writes g) (position g)
+heldLocks g = cond (eqb (phase g) checking) (writes g) (position g)
 
 -- the words with the locks of a row's first n write entries cleared
 unfoldable pub released : List ℕ → List ℕ → ℕ → List ℕ
@@ -28,7 +42,8 @@ released words g (suc n) =
 -- held locks released and the row freed: what an abort and Abandon leave
 unfoldable pub letGo : Tables → ℕ → Answer → Outcome
 letGo t s a =
-    after a (t .values) (released (t .words) (row (t .seats) s) (heldLocks (row (t .seats) s))) (freed (t .seats) s)
+    let g : List ℕ = row (t .seats) s in
+    answered a (withSeats (withWords t (released (t .words) g (heldLocks g))) (freed (t .seats) s))
 
 -- the row in another phase, at another position
 unfoldable pub moved : List ℕ → ℕ → ℕ → ℕ → List ℕ
@@ -40,8 +55,8 @@ lockStep t s =
     let p : ℕ = position (row (t .seats) s) in
     let item : ℕ = writeItem (row (t .seats) s) p in
     let word : ℕ = getD (t .words) item 0 in
-    cond (isLocked word) (letGo t s (Aborted 21))
-    (after (Locked item) (t .values) (set (t .words) item (withLock true word)) (moved (t .seats) s 2 (p + 1)))
+    cond (isLocked word) (letGo t s (Aborted wordLocked))
+    (answered (Locked item) (withSeats (withWords t (set (t .words) item (withLock true word))) (moved (t .seats) s locking (p + 1))))
 
 -- PHASES 1 AND 2, position equal to writes
 -- the greatest of 0 and the kept write times of the first n read entries
@@ -60,27 +75,38 @@ commitTime words g = dueTime words g (seenTime g (reads g)) (writes g)
 -- the time; above T: 24
 unfoldable pub timeStep : Tables → ℕ → Outcome
 timeStep t s =
-    let tc : ℕ = commitTime (t .words) (row (t .seats) s) in
-    cond (ltb top tc) (letGo t s (Aborted 24))
-    (after (Timed tc) (t .values) (t .words) (put (moved (t .seats) s 3 0) s timeAt tc))
+    let due : ℕ = commitTime (t .words) (row (t .seats) s) in
+    cond (ltb top due) (letGo t s (Aborted timeRunOut))
+    (answered (Timed due) (withSeats t (put (moved (t .seats) s checking 0) s timeAt due)))
 
 -- PHASE 3, position below reads: the check of a read entry, from its kept times, the commit time, the word, and whether the seat writes the record too
-unfoldable pub verdict : ℕ → ℕ → ℕ → ℕ → Bool → Verdict
-verdict wrote upTo tc word own =
-    cond (leb tc upTo) Passes
-    (cond (not (eqb (writeTime word) wrote)) (Fails 22)
+-- locked, and its read time not above the time
+unfoldable pub isBlocked : ℕ → ℕ → Bool
+isBlocked word time = isLocked word && leb (readTime word) time
+
+-- by the word, where the kept read time is below the time
+unfoldable pub byWord : ℕ → ℕ → ℕ → Bool → Verdict
+byWord keptWrite time word own =
+    cond (not (eqb (writeTime word) keptWrite)) (Fails versionGone)
     (cond own Passes
-    (cond (isLocked word && leb (readTime word) tc) (Fails 23)
-    (cond (ltb (readTime word) tc) Extends Passes))))
+    (cond (isBlocked word time) (Fails wordBlocked)
+    (cond (ltb (readTime word) time) Extends Passes)))
+
+unfoldable pub verdict : ℕ → ℕ → ℕ → ℕ → Bool → Verdict
+verdict keptWrite keptRead time word own = cond (leb time keptRead) Passes (byWord keptWrite time word own)
 
 -- the record of the read entry at position
 abbrev pub checkItem : List ℕ → ℕ
 checkItem g = readItem g (position g)
 
-unfoldable pub judged : List ℕ → List ℕ → Verdict
-judged words g =
-    verdict (keptWrite g (position g)) (keptRead g (position g)) (time g) (getD words (checkItem g) 0)
-    (ltb (writeOf g (checkItem g)) (writes g))
+-- whether the seat writes it too
+unfoldable pub isOwn : List ℕ → Bool
+isOwn g = ltb (writeOf g (checkItem g)) (writes g)
+
+unfoldable pub judged : Tables → ℕ → Verdict
+judged t s =
+    let g : List ℕ = row (t .seats) s in
+    verdict (keptWrite g (position g)) (keptRead g (position g)) (time g) (getD (t .words) (checkItem g) 0) (isOwn g)
 
 -- the words with that record's word extended to the time
 unfoldable pub stretched : List ℕ → List ℕ → List ℕ
@@ -89,7 +115,8 @@ stretched words g = set words (checkItem g) (extended (getD words (checkItem g) 
 -- passing: position up by one
 unfoldable pub passed : Tables → ℕ → List ℕ → Outcome
 passed t s words =
-    after (Checked (checkItem (row (t .seats) s))) (t .values) words (put (t .seats) s positionAt (position (row (t .seats) s) + 1))
+    let g : List ℕ = row (t .seats) s in
+    answered (Checked (checkItem g)) (withSeats (withWords t words) (put (t .seats) s positionAt (position g + 1)))
 
 unfoldable pub ruled : Tables → ℕ → Verdict → Outcome
 ruled t s Passes = passed t s (t .words)
@@ -97,11 +124,11 @@ ruled t s Extends = passed t s (stretched (t .words) (row (t .seats) s))
 ruled t s (Fails why) = letGo t s (Aborted why)
 
 unfoldable pub checkStep : Tables → ℕ → Outcome
-checkStep t s = ruled t s (judged (t .words) (row (t .seats) s))
+checkStep t s = ruled t s (judged t s)
 
 -- PHASE 3, position equal to reads
 unfoldable pub sealStep : Tables → ℕ → Outcome
-sealStep t s = after (Sealed (time (row (t .seats) s))) (t .values) (t .words) (moved (t .seats) s 4 0)
+sealStep t s = answered (Sealed (time (row (t .seats) s))) (withSeats t (moved (t .seats) s storing 0))
 
 -- PHASE 4, position below writes
 -- what a write entry makes of the value then held: its own value
@@ -112,14 +139,12 @@ unfoldable pub storeStep : Tables → ℕ → Outcome
 storeStep t s =
     let g : List ℕ = row (t .seats) s in
     let item : ℕ = writeItem g (position g) in
-    after (Stored item)
-    (set (t .values) item (effect (writeValue g (position g)) (getD (t .values) item 0)))
-    (set (t .words) item (fresh (time g)))
-    (put (t .seats) s positionAt (position g + 1))
+    let stored : Tables = withValues t (set (t .values) item (effect (writeValue g (position g)) (getD (t .values) item 0))) in
+    answered (Stored item) (withSeats (withWords stored (set (t .words) item (fresh (time g)))) (put (t .seats) s positionAt (position g + 1)))
 
 -- PHASE 4, position equal to writes
 unfoldable pub doneStep : Tables → ℕ → Outcome
-doneStep t s = after (Done (time (row (t .seats) s))) (t .values) (t .words) (freed (t .seats) s)
+doneStep t s = answered (Done (time (row (t .seats) s))) (withSeats t (freed (t .seats) s))
 
 -- the phases
 unfoldable pub lockPhase : Tables → ℕ → Outcome
@@ -138,16 +163,16 @@ storePhase t s =
 unfoldable pub advanceIn : Tables → ℕ → Outcome
 advanceIn t s =
     let ph : ℕ = phase (row (t .seats) s) in
-    cond (eqb ph 1) (lockPhase t s)
-    (cond (eqb ph 2) (lockPhase t s)
-    (cond (eqb ph 3) (checkPhase t s)
-    (cond (eqb ph 4) (storePhase t s)
-    (keep t (Refused 3)))))
+    cond (eqb ph working) (lockPhase t s)
+    (cond (eqb ph locking) (lockPhase t s)
+    (cond (eqb ph checking) (checkPhase t s)
+    (cond (eqb ph storing) (storePhase t s)
+    (answered (Refused 3) t))))
 
 -- ADVANCE
 unfoldable pub advance : Tables → ℕ → ℕ → Outcome
-advance t o s = unless (refusal t o s 0 4) t (advanceIn t s)
+advance t o s = unless (seatRefusal t o s storing) t (advanceIn t s)
 
 -- ABANDON, phases 1 to 3
 unfoldable pub abandon : Tables → ℕ → ℕ → Outcome
-abandon t o s = unless (refusal t o s 0 3) t (letGo t s (Dropped s))
+abandon t o s = unless (seatRefusal t o s checking) t (letGo t s (Dropped s))

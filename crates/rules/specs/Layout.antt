@@ -27,9 +27,25 @@ abbrev pub limitAt : ℕ → ℕ
 limitAt o = owners + o
 
 abbrev pub planWidth : ℕ
-planWidth = 32
+planWidth = owners + owners
 
--- a row: phase, owner, position, reads, writes, time
+-- the phases of a row
+abbrev pub free : ℕ
+free = 0
+
+abbrev pub working : ℕ
+working = 1
+
+abbrev pub locking : ℕ
+locking = 2
+
+abbrev pub checking : ℕ
+checking = 3
+
+abbrev pub storing : ℕ
+storing = 4
+
+-- a row, `g` wherever one is named. Its head: phase, owner, position, reads, writes, time
 abbrev pub phaseAt : ℕ
 phaseAt = 0
 
@@ -48,7 +64,7 @@ writesAt = 4
 abbrev pub timeAt : ℕ
 timeAt = 5
 
--- then the read entries: record, value, write time, read time
+-- then the read entries: record, value, and the times that are kept, write time and read time. A record's number is `item`, since `record` is a word of the language
 abbrev pub readsFrom : ℕ
 readsFrom = 6
 
@@ -69,7 +85,7 @@ keptReadAt i = readsFrom + 3 + readWidth * i
 
 -- then the write entries: record, value
 abbrev pub writesFrom : ℕ
-writesFrom = 70
+writesFrom = readsFrom + readWidth * mostReads
 
 abbrev pub writeWidth : ℕ
 writeWidth = 2
@@ -81,14 +97,14 @@ abbrev pub writeValueAt : ℕ → ℕ
 writeValueAt i = writesFrom + 1 + writeWidth * i
 
 abbrev pub rowWidth : ℕ
-rowWidth = 86
+rowWidth = writesFrom + writeWidth * mostWrites
 
 -- where a row begins, and the table's length
 abbrev pub rowAt : ℕ → ℕ
 rowAt s = planWidth + rowWidth * s
 
 abbrev pub seatsLength : ℕ
-seatsLength = 5536
+seatsLength = planWidth + rowWidth * seatCount
 
 -- the row of a seat, a number of it, and the table with another number there
 unfoldable pub row : List ℕ → ℕ → List ℕ

@@ -11,21 +11,22 @@ use lib.ListN.{length, getD}
 use Rattle.clock.specs.Word.{isLocked, writeTime}
 use Rattle.rules.specs.Layout.{owners, seatCount, mostReads, rowWidth, seatsLength, row, cell, put, position, reads, writes, keptWrite, share, limit}
 use Rattle.rules.specs.Places.{length-put, cell-put, cell-put-field}
-use Rattle.rules.specs.Tests.{any, sumTo, oneOf, firstOf}
-use Rattle.rules.specs.Tables.{Tables, keep}
+use Rattle.rules.specs.Tests.{any, sumTo, oneOf}
+use Rattle.rules.specs.Tables.{Tables, answered}
 use Rattle.rules.specs.Refusals.{unsized}
-use Rattle.rules.specs.Plan.{badShare, badPlan, held, claim, unsound, openRefusal, cleared, freed}
+use Rattle.rules.specs.Plan.{badShare, badPlan, held, claim, unsound, ownerRefusal, planRefusal, openRefusal, cleared, freed}
 use Rattle.rules.specs.Work.{writeOf, firstRead}
-use Rattle.rules.specs.Advance.{verdict, checkItem, judged}
+use Rattle.rules.specs.Advance.{byWord, verdict, checkItem, isOwn, judged}
 use Rattle.rules.specs.declared.Answer.the-variants.{Refused}
 use Rattle.rules.specs.declared.Verdict.the-variants.{Passes}
 
 -- reads full is 8, whether the record is locked or not; a locked record is 10 only where there is room
-pub reads-full : (t : Tables) (s item : ℕ) → mostReads ≤ reads (row (t .seats) s) → firstRead t s item ≡ keep t (Refused 8)
+pub reads-full : (t : Tables) (s item : ℕ) → mostReads ≤ reads (row (t .seats) s) → firstRead t s item ≡ answered (Refused 8) t
 unfolding firstRead
 reads-full t s item h = simp (le-leb _ _ h)
 
-pub item-locked : (t : Tables) (s item : ℕ) → reads (row (t .seats) s) < mostReads → isLocked (getD (t .words) item 0) ≡ true → firstRead t s item ≡ keep t (Refused 10)
+pub item-locked : (t : Tables) (s item : ℕ) → reads (row (t .seats) s) < mostReads → isLocked (getD (t .words) item 0) ≡ true →
+    firstRead t s item ≡ answered (Refused 10) t
 unfolding firstRead
 item-locked t s item h l = simp (lt-leb _ _ h, l)
 
@@ -34,22 +35,26 @@ chosen : {A : Type 0} (b : Bool) (x y : A) → b ≡ true → cond b x y ≡ x
 chosen true x y e = refl
 chosen false x y e = absurd (true≢false (sym e))
 
-pub covered-passes : (wrote upTo tc word : ℕ) (own : Bool) → tc ≤ upTo → verdict wrote upTo tc word own ≡ Passes
+pub covered-passes : (keptWrite keptRead time word : ℕ) (own : Bool) → time ≤ keptRead → verdict keptWrite keptRead time word own ≡ Passes
 unfolding verdict
-covered-passes wrote upTo tc word own h = chosen _ _ _ (le-leb tc upTo h)
+covered-passes keptWrite keptRead time word own h = chosen _ _ _ (le-leb time keptRead h)
 
 -- so does one of a record that the seat writes too, where the word has the kept write time: its own lock is not another's
 either : {A : Type 0} (b : Bool) {x y : A} → y ≡ x → cond b x y ≡ x
 either true e = refl
 either false e = e
 
-own-passes : (wrote upTo tc word : ℕ) → writeTime word ≡ wrote → verdict wrote upTo tc word true ≡ Passes
-unfolding verdict
-own-passes wrote upTo tc word e = either (leb tc upTo) (rw (eq-eqb _ _ e))
+own-passes : (keptWrite keptRead time word : ℕ) → writeTime word ≡ keptWrite → verdict keptWrite keptRead time word true ≡ Passes
+unfolding verdict byWord
+own-passes keptWrite keptRead time word e = either (leb time keptRead) (rw (eq-eqb _ _ e))
 
-pub own-lock-passes : (words g : List ℕ) → writeTime (getD words (checkItem g) 0) ≡ keptWrite g (position g) → writeOf g (checkItem g) < writes g → judged words g ≡ Passes
-unfolding judged
-own-lock-passes words g e l = ap (verdict _ _ _ _) (lt-ltb (writeOf g (checkItem g)) (writes g) l) ∙ own-passes _ _ _ _ e
+pub own-lock-passes : (t : Tables) (s : ℕ) →
+    let g : List ℕ = row (t .seats) s in
+    writeTime (getD (t .words) (checkItem g) 0) ≡ keptWrite g (position g) → writeOf g (checkItem g) < writes g → judged t s ≡ Passes
+unfolding judged isOwn
+own-lock-passes t s e l =
+    let g : List ℕ = row (t .seats) s in
+    ap (verdict _ _ _ _) (lt-ltb (writeOf g (checkItem g)) (writes g) l) ∙ own-passes _ _ _ _ e
 
 -- U counts the seats that an owner holds, and its share where it holds fewer
 pub held-claim : (seats : List ℕ) (o : ℕ) → held seats o ≤ claim seats o
@@ -70,9 +75,10 @@ shares-fit plan e = ltb-false seatCount (sumTo (share plan) owners) (second (any
     second false b q = q
 
 -- an owner at its limit is refused 6, where nothing of a lower number is due
-pub at-limit : (t : Tables) (o : ℕ) → unsized (length (t .values)) (length (t .words)) (length (t .seats)) ≡ false → o < owners → unsound (t .seats) ≡ false →
+pub at-limit : (t : Tables) (o : ℕ) →
+    unsized (length (t .values)) (length (t .words)) (length (t .seats)) ≡ false → o < owners → unsound (t .seats) ≡ false →
     limit (t .seats) o ≤ held (t .seats) o → openRefusal t o ≡ 6
-unfolding openRefusal firstOf
+unfolding openRefusal planRefusal ownerRefusal
 at-limit t o a b c h = simp (a, lt-leb owners o b, c, le-leb _ _ h)
 
 -- a freed row is zero throughout

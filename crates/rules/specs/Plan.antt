@@ -1,13 +1,13 @@
 -- Setup and Open: the plan of shares and limits, the seats held under it, and the seat that is given.
 use Prim.Native.Nat.{ℕ, zero, suc, max}
 use mathlib.Core.List.{List, [], _∷_}
-use mathlib.Core.Bool.{Bool, false, cond, not, _&&_}
+use mathlib.Core.Bool.{Bool, cond, not, _&&_}
 use lib.ListN.{length, getD, set, replicate}
 use lib.Dec.{eqb, ltb, leb}
 use Rattle.clock.specs.Word.{top, fresh}
-use Rattle.rules.specs.Tests.{first, any, count, sumTo, oneOf, firstOf}
-use Rattle.rules.specs.Layout.{owners, seatCount, planWidth, rowWidth, phaseAt, ownerAt, row, put, phase, owner, share, limit}
-use Rattle.rules.specs.Tables.{Tables, Outcome, after, unless}
+use Rattle.rules.specs.Tests.{first, any, count, sumTo, oneOf}
+use Rattle.rules.specs.Layout.{owners, seatCount, planWidth, rowWidth, free, working, storing, phaseAt, ownerAt, row, put, phase, owner, share, limit}
+use Rattle.rules.specs.Tables.{Tables, Outcome, withWords, withSeats, answered, unless}
 use Rattle.rules.specs.Refusals.{unsized}
 use Rattle.rules.specs.declared.Answer.the-variants.{Ready, Seat}
 
@@ -33,12 +33,12 @@ laid seats plan (suc n) = set (laid seats plan n) n (getD plan n 0)
 unfoldable pub setup : Tables → ℕ → List ℕ → Outcome
 setup t start plan =
     unless (setupRefusal t start plan) t
-    (after (Ready (length (t .words))) (t .values) (replicate (length (t .words)) (fresh start))
-    (laid (replicate (length (t .seats)) 0) plan planWidth))
+    (answered (Ready (length (t .words)))
+    (withSeats (withWords t (replicate (length (t .words)) (fresh start))) (laid (replicate (length (t .seats)) 0) plan planWidth)))
 
 -- the seats that an owner holds: its rows not free
 unfoldable pub holds : List ℕ → ℕ → ℕ → Bool
-holds seats o s = not (eqb (phase (row seats s)) 0) && eqb (owner (row seats s)) o
+holds seats o s = not (eqb (phase (row seats s)) free) && eqb (owner (row seats s)) o
 
 unfoldable pub held : List ℕ → ℕ → ℕ
 held seats o = count (holds seats o) seatCount
@@ -54,7 +54,7 @@ claims seats = sumTo (claim seats) owners
 -- an owner holding more than its limit, or U above 64
 unfoldable pub badRow : List ℕ → ℕ → Bool
 badRow seats s =
-    oneOf (ltb 4 (phase (row seats s)) ∷ (not (eqb (phase (row seats s)) 0) && leb owners (owner (row seats s))) ∷ [])
+    oneOf (ltb storing (phase (row seats s)) ∷ (not (eqb (phase (row seats s)) free) && leb owners (owner (row seats s))) ∷ [])
 
 unfoldable pub overLimit : List ℕ → ℕ → Bool
 overLimit seats o = ltb (limit seats o) (held seats o)
@@ -71,20 +71,22 @@ unsound seats =
 unfoldable pub crowded : List ℕ → ℕ → Bool
 crowded seats o = leb (share seats o) (held seats o) && eqb (claims seats) seatCount
 
--- OPEN. 1, 2 for the owner, 3, then 6 and 7; 4 and 5 are not for Open
+-- 6 and 7, by what the owner holds
+unfoldable pub ownerRefusal : List ℕ → ℕ → ℕ
+ownerRefusal seats o = cond (leb (limit seats o) (held seats o)) 6 (cond (crowded seats o) 7 0)
+
+-- 3, then 6 and 7; 4 and 5 are not for Open
+unfoldable pub planRefusal : List ℕ → ℕ → ℕ
+planRefusal seats o = cond (unsound seats) 3 (ownerRefusal seats o)
+
+-- OPEN. 1, 2 for the owner, then by the plan
 unfoldable pub openRefusal : Tables → ℕ → ℕ
 openRefusal t o =
-    firstOf 1 (unsized (length (t .values)) (length (t .words)) (length (t .seats))
-    ∷ leb owners o
-    ∷ unsound (t .seats)
-    ∷ false
-    ∷ false
-    ∷ leb (limit (t .seats) o) (held (t .seats) o)
-    ∷ crowded (t .seats) o
-    ∷ [])
+    cond (unsized (length (t .values)) (length (t .words)) (length (t .seats))) 1
+    (cond (leb owners o) 2 (planRefusal (t .seats) o))
 
 unfoldable pub isFree : List ℕ → ℕ → Bool
-isFree seats s = eqb (phase (row seats s)) 0
+isFree seats s = eqb (phase (row seats s)) free
 
 -- the lowest free seat
 unfoldable pub freeSeat : List ℕ → ℕ
@@ -101,10 +103,10 @@ freed seats s = cleared seats s rowWidth
 
 -- zeros in the row but for phase and owner
 unfoldable pub opened : List ℕ → ℕ → ℕ → List ℕ
-opened seats s o = put (put (freed seats s) s phaseAt 1) s ownerAt o
+opened seats s o = put (put (freed seats s) s phaseAt working) s ownerAt o
 
 unfoldable pub openSeat : Tables → ℕ → Outcome
 openSeat t o =
     unless (openRefusal t o) t
     (let s : ℕ = freeSeat (t .seats) in
-    after (Seat s) (t .values) (t .words) (opened (t .seats) s o))
+    answered (Seat s) (withSeats t (opened (t .seats) s o)))
