@@ -1,15 +1,17 @@
--- A row's head, its first six numbers, and what a call is refused for from the row alone.
+-- A row's head, its first six numbers; and the admission of a call.
 use Prim.Native.Nat.{ℕ, _≤_}
-use mathlib.Core.Path.{_≡_, refl, ap}
-use mathlib.Core.Bool.{Bool, true, false, cond, not, _||_}
-use mathlib.Core.List.{List, [], _∷_, _++_}
+use mathlib.Core.Path.{_≡_, ap}
+use mathlib.Core.Bool.{false, cond}
+use mathlib.Core.List.{List, [], _∷_}
+use native.Mathlib.Omega.{arith}
 use borrow.Author.Tests.{ltb-false}
-use lib.Dec.{eqb, ltb, leb}
-use Rattle.rules.specs.Tests.{any, oneOf, firstOf}
-use Rattle.rules.specs.Layout.{owners, mostReads, mostWrites, phase, owner, position, reads, writes, time}
-use Rattle.rules.specs.Refusals.{misplaced, late, badRead, badWrite, damaged, foreign}
+use lib.Dec.{eqb}
+use Rattle.rules.specs.Layout.{mostReads, mostWrites, phase, owner, position, reads, writes, time, readItem, keptWrite}
+use Rattle.rules.specs.Refusals.{badHead}
 use Rattle.rows.specs.Fine.{none-of}
 use Rattle.seats.specs.declared.Head.{Head}
+use Rattle.seats.specs.declared.Admission.{Admission}
+use Rattle.seats.specs.declared.Admission.the-variants.{Refused, Ready}
 
 unfoldable pub headOf : List ℕ → Head
 headOf g =
@@ -43,43 +45,30 @@ head-is e =
       time-is = ap (λ (h : Head). h .time) e;
     }
 
--- the tests of 'Damaged' that need the head alone
-abbrev headTests : Head → List Bool
-headTests h =
-    ltb 4 (h .phase)
-    ∷ leb owners (h .owner)
-    ∷ ltb mostReads (h .reads)
-    ∷ ltb mostWrites (h .writes)
-    ∷ misplaced (h .phase) (h .position) (h .reads) (h .writes)
-    ∷ late (h .phase) (h .time)
-    ∷ []
+-- a row that has these six numbers alone: what the rules say of a head, they say of it
+unfoldable pub headRow : Head → List ℕ
+headRow h = h .phase ∷ h .owner ∷ h .position ∷ h .reads ∷ h .writes ∷ h .time ∷ []
 
-unfoldable pub badHead : Head → Bool
-badHead h = oneOf (headTests h)
+pub bad-head : {g : List ℕ} {h : Head} → HeadOf g h → badHead (headRow h) ≡ badHead g
+unfolding badHead headRow
+bad-head q = simp (← q .phase-is, ← q .owner-is, ← q .position-is, ← q .reads-is, ← q .writes-is, ← q .time-is)
 
-one-of-append : (bs cs : List Bool) → oneOf (bs ++ cs) ≡ oneOf bs || oneOf cs
-unfolding oneOf
-one-of-append [] cs = refl
-one-of-append (true ∷ []) [] = refl
-one-of-append (false ∷ []) [] = refl
-one-of-append (true ∷ []) (c ∷ cs) = refl
-one-of-append (false ∷ []) (c ∷ cs) = refl
-one-of-append (true ∷ b ∷ bs) cs = refl
-one-of-append (false ∷ b ∷ bs) cs = one-of-append (b ∷ bs) cs
+-- the numbers that the test of a read entry looks at
+pub record ReadOf (g : List ℕ) (i item keptW ph t : ℕ) : Type 0 where
+  pub item-is : item ≡ readItem g i
+  pub kept-is : keptW ≡ keptWrite g i
+  pub phase-is : ph ≡ phase g
+  pub time-is : t ≡ time g
 
--- 'Damaged', by the head and the entries
-pub damaged-by : (g : List ℕ) {h : Head} → h ≡ headOf g → (records : ℕ) → damaged g records ≡ cond (eqb (h .phase) 0) false (badHead h || (any (badRead g records) (h .reads) || any (badWrite g records) (h .writes)))
-unfolding headOf damaged badHead oneOf
-damaged-by g e records = rw e (ap (cond (eqb (phase g) 0) false) (one-of-append (headTests (headOf g)) (any (badRead g records) (reads g) ∷ any (badWrite g records) (writes g) ∷ [])))
-
-pub head-fits : (h : Head) → badHead h ≡ false → (h .reads ≤ mostReads) × (h .writes ≤ mostWrites)
+-- a head that is in order has no more entries than a row can have
+pub head-fits : (g : List ℕ) {h : Head} → HeadOf g h → badHead g ≡ false → (h .reads ≤ mostReads) × (h .writes ≤ mostWrites)
 unfolding badHead
-head-fits h e = let r = none-of _ e in (ltb-false _ _ (r .1 .1 .0), ltb-false _ _ (r .1 .1 .1 .0))
+head-fits g q e =
+    let r = none-of _ e in
+    let few-reads : reads g ≤ mostReads = ltb-false _ _ (r .1 .1 .0) in
+    let few-writes : writes g ≤ mostWrites = ltb-false _ _ (r .1 .1 .1 .0) in
+    (omega arith, omega arith)
 
--- refusals 3 to 5
-unfoldable pub rowRefusal : List ℕ → ℕ → ℕ → ℕ → ℕ
-rowRefusal g records o last = firstOf 3 (damaged g records ∷ foreign g o ∷ ltb last (phase g) ∷ [])
-
-pub row-refusal-by : (g : List ℕ) {h : Head} → h ≡ headOf g → (records o last : ℕ) → rowRefusal g records o last ≡ firstOf 3 (damaged g records ∷ (eqb (h .phase) 0 || not (eqb (h .owner) o)) ∷ ltb last (h .phase) ∷ [])
-unfolding headOf rowRefusal foreign oneOf
-row-refusal-by g e records o last = rw e
+-- what a call comes to, before it begins, that is refused for `why`: 0 where it is not
+unfoldable pub admission : ℕ → List ℕ → Admission
+admission why g = cond (eqb why 0) (Ready (headOf g)) (Refused why)

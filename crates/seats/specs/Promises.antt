@@ -1,20 +1,19 @@
 -- What each public function promises, one statement a function: of its result `r`, or of what it leaves of a table, `left`.
 -- `NAME-one` says that the statement leaves one.
 use Prim.Native.Nat.{ℕ, min, max}
-use mathlib.Core.Path.{_≡_, ap}
+use mathlib.Core.Path.{_≡_}
 use mathlib.Core.Bool.{Bool}
 use mathlib.Core.List.{List}
 use lib.ListN.{length, getD, set, replicate}
 use Rattle.clock.specs.Promises.{one-result}
 use Rattle.rules.specs.Tests.{first}
 use Rattle.rules.specs.Layout.{mostReads, mostWrites, row, put}
-use Rattle.rules.specs.Tables.{Outcome, tables, after}
+use Rattle.rules.specs.Tables.{Tables}
 use Rattle.rules.specs.Refusals.{unsized, refusal}
 use Rattle.rules.specs.Plan.{freed}
 use Rattle.rules.specs.Work.{readNames, writeNames}
-use Rattle.rules.specs.declared.Answer.{Answer}
-use Rattle.seats.specs.declared.Head.{Head}
-use Rattle.seats.specs.Heads.{headOf}
+use Rattle.seats.specs.declared.Admission.{Admission}
+use Rattle.seats.specs.Heads.{admission}
 
 -- PLACES OF A TABLE
 -- what stands at a place; 0 past the table's end
@@ -51,19 +50,6 @@ RowIs seats seat r = r ≡ row seats seat
 pub RowIs-one : (seats : List ℕ) (seat : ℕ) (r q : List ℕ) → RowIs seats seat r → RowIs seats seat q → r ≡ q
 RowIs-one seats seat r q = one-result
 
--- the head of a row, and of a seat's row
-abbrev pub HeadIs : List ℕ → Head → Type 0
-HeadIs g r = r ≡ headOf g
-
-pub HeadIs-one : (g : List ℕ) (r q : Head) → HeadIs g r → HeadIs g q → r ≡ q
-HeadIs-one g r q = one-result
-
-abbrev pub SeatHeadIs : List ℕ → ℕ → Head → Type 0
-SeatHeadIs seats seat r = r ≡ headOf (row seats seat)
-
-pub SeatHeadIs-one : (seats : List ℕ) (seat : ℕ) (r q : Head) → SeatHeadIs seats seat r → SeatHeadIs seats seat q → r ≡ q
-SeatHeadIs-one seats seat r q = one-result
-
 -- a number stored at a place of a seat's row
 abbrev pub RowGiven : List ℕ → ℕ → ℕ → ℕ → List ℕ → Type 0
 RowGiven seats seat field v left = left ≡ put seats seat field v
@@ -98,21 +84,10 @@ UnsizedIs values words seats r = r ≡ unsized values words seats
 pub UnsizedIs-one : (values words seats : ℕ) (r q : Bool) → UnsizedIs values words seats r → UnsizedIs values words seats q → r ≡ q
 UnsizedIs-one values words seats r q = one-result
 
--- what a call that names a seat is refused for; 0 where it is not
-abbrev pub RefusalIs : List ℕ → List ℕ → List ℕ → ℕ → ℕ → ℕ → ℕ → ℕ → Type 0
-RefusalIs values words seats owner seat item last r = r ≡ refusal (tables values words seats) owner seat item last
+-- refused for the lowest number that is due, or admitted with the head of its row
+abbrev pub Admitted : Tables → ℕ → ℕ → Bool → ℕ → Admission → Type 0
+Admitted t owner seat unknown last r = r ≡ admission (refusal t owner seat unknown last) (row (t .seats) seat)
 
-pub RefusalIs-one : (values words seats : List ℕ) (owner seat item last r q : ℕ) →
-    RefusalIs values words seats owner seat item last r → RefusalIs values words seats owner seat item last q → r ≡ q
-RefusalIs-one values words seats owner seat item last r q = one-result
-
--- THE CALLS OF THE CRATES ABOVE: their statements are `after r values words seats ≡ outcome`, which fixes the answer and all three tables
-pub one-outcome : {o : Outcome} {r q : Answer} {v v′ w w′ s s′ : List ℕ} → after r v w s ≡ o → after q v′ w′ s′ ≡ o →
-    (r ≡ q) × (v ≡ v′) × (w ≡ w′) × (s ≡ s′)
-one-outcome e f =
-    let both = one-result e f in (
-      ap (λ (x : Outcome). x .answer) both,
-      ap (λ (x : Outcome). x .tables .values) both,
-      ap (λ (x : Outcome). x .tables .words) both,
-      ap (λ (x : Outcome). x .tables .seats) both,
-    )
+pub Admitted-one : (t : Tables) (owner seat : ℕ) (unknown : Bool) (last : ℕ) (r q : Admission) →
+    Admitted t owner seat unknown last r → Admitted t owner seat unknown last q → r ≡ q
+Admitted-one t owner seat unknown last r q = one-result

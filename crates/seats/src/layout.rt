@@ -12,13 +12,9 @@ pub const MOST_READS: u64 = 16;
 pub const MOST_WRITES: u64 = 8;
 
 // The seat table: shares, limits, then the rows.
-pub const LIMITS_FROM: u64 = 16;
+pub const LIMITS_FROM: u64 = OWNERS;
 
-pub const PLAN_WIDTH: u64 = 32;
-
-pub const ROW_WIDTH: u64 = 86;
-
-pub const SEATS_LENGTH: u64 = 5536;
+pub const PLAN_WIDTH: u64 = LIMITS_FROM + OWNERS;
 
 // A row: its head.
 pub const PHASE: u64 = 0;
@@ -33,23 +29,30 @@ pub const WRITES: u64 = 4;
 
 pub const TIME: u64 = 5;
 
+pub const HEAD_WIDTH: u64 = 6;
+
 // Its read entries: where the first one's numbers stand, and how far on the next one's do.
-pub const READ_ITEM: u64 = 6;
+pub const READ_ITEM: u64 = HEAD_WIDTH;
 
-pub const READ_VALUE: u64 = 7;
+pub const READ_VALUE: u64 = READ_ITEM + 1;
 
-pub const KEPT_WRITE: u64 = 8;
+pub const KEPT_WRITE: u64 = READ_ITEM + 2;
 
-pub const KEPT_READ: u64 = 9;
+pub const KEPT_READ: u64 = READ_ITEM + 3;
 
 pub const READ_WIDTH: u64 = 4;
 
 // Its write entries, the same way.
-pub const WRITE_ITEM: u64 = 70;
+pub const WRITE_ITEM: u64 = READ_ITEM + READ_WIDTH * MOST_READS;
 
-pub const WRITE_VALUE: u64 = 71;
+pub const WRITE_VALUE: u64 = WRITE_ITEM + 1;
 
 pub const WRITE_WIDTH: u64 = 2;
+
+// What they come to.
+pub const ROW_WIDTH: u64 = WRITE_ITEM + WRITE_WIDTH * MOST_WRITES;
+
+pub const SEATS_LENGTH: u64 = PLAN_WIDTH + ROW_WIDTH * SEATS;
 
 // The phases.
 pub const FREE: u64 = 0;

@@ -1,16 +1,16 @@
 // What the calls share: places of a table, a seat's row, and the refusals of a call that names a seat.
 ghost use mathlib.Core.Path.{_≡_};
-ghost use mathlib.Core.List.{[], _∷_};
-ghost use mathlib.Core.Bool.{_&&_};
-ghost use Prim.Native.Nat.{_+_, _*_, min, _≤_};
-ghost use lib.Dec.{eqb, ltb, leb};
+ghost use mathlib.Core.List.{List};
+ghost use Prim.Native.Nat.{ℕ, _+_, _*_, min, _≤_};
+ghost use lib.Dec.{eqb};
 ghost use lib.ListN.{getD};
-ghost use Rattle.rules.specs.Tests.{any, oneOf, first as firstOf};
-ghost use Rattle.rules.specs.Layout.{mostReads, mostWrites, rowWidth, rowAt, phase as phaseOf, time as timeOf};
-ghost use Rattle.rules.specs.Refusals.{misnamed, misplaced, late, badRead, badWrite, damaged};
-ghost use Rattle.seats.specs.Heads.{headOf, badHead, rowRefusal};
-ghost use Rattle.seats.specs.Promises.{PlaceIs, StoredAt, Filled, GreaterIs, RowIs, HeadIs, SeatHeadIs, RowGiven, RowFreed, ReadEntryIs, WriteEntryIs};
-ghost use Rattle.seats.specs.Promises.{UnsizedIs, RefusalIs};
+ghost use Rattle.rules.specs.Tests.{any, first as firstOf};
+ghost use Rattle.rules.specs.Layout.{mostReads, mostWrites, rowWidth, rowAt};
+ghost use Rattle.rules.specs.Lent.{lent};
+ghost use Rattle.rules.specs.Refusals.{misnamed, misplaced, late, badRead, badWrite, badHead, damaged, rowRefusal};
+ghost use Rattle.seats.specs.Heads.{headOf, HeadOf, headRow, ReadOf, admission};
+ghost use Rattle.seats.specs.Promises.{PlaceIs, StoredAt, Filled, GreaterIs, RowIs, RowGiven, RowFreed, ReadEntryIs, WriteEntryIs};
+ghost use Rattle.seats.specs.Promises.{UnsizedIs, Admitted};
 
 pub mod layout;
 
@@ -91,8 +91,8 @@ pub fn row_of(seats: &[u64], seat: u64) -> &[u64]
     &seats[from as usize..to as usize]
 }
 
-pub fn head_of(row: &[u64]) -> Head
-    ensures { λ r. ⌜ HeadIs (now (row .entry)) r ⌝ }
+fn head_of(row: &[u64]) -> Head
+    ensures { λ r. ⌜ r ≡ headOf (now (row .entry)) ⌝ }
 {
     Head {
         phase: at(row, PHASE),
@@ -102,12 +102,6 @@ pub fn head_of(row: &[u64]) -> Head
         writes: at(row, WRITES),
         time: at(row, TIME),
     }
-}
-
-pub fn head_at(seats: &[u64], seat: u64) -> Head
-    ensures { λ r. ⌜ SeatHeadIs (now (seats .entry)) seat r ⌝ }
-{
-    head_of(row_of(seats, seat))
 }
 
 // A store at a place of a seat's row.
@@ -131,7 +125,8 @@ pub fn free_row(seats: &mut [u64], seat: u64)
     fill(&mut seats[from as usize..to as usize], 0);
 }
 
-// The first of a row's n entries that names the record; n where none does. `first` is where the record's number stands in the first entry, `width` how far on in the next.
+// The first of a row's n entries that names the record; n where none does.
+// `first` is where the record's number stands in the first entry, `width` how far on in the next.
 fn find(row: &[u64], first: u64, width: u64, n: u64, item: u64) -> u64
     requires { ⌜ first + width * n ≤ rowWidth ⌝ }
     ensures { λ r. ⌜ r ≡ firstOf (λ i. eqb (getD (now (row .entry)) (first + width * i) 0) item) n ⌝ }
@@ -177,8 +172,8 @@ pub fn is_unsized(values: u64, words: u64, seats: u64) -> bool
 }
 
 // REFUSAL 2: an owner, a seat or a record out of range.
-fn is_misnamed(records: u64, owner: u64, seat: u64, item: u64) -> bool
-    ensures { λ r. ⌜ r ≡ misnamed records owner seat item ⌝ }
+fn is_misnamed(owner: u64, seat: u64, unknown: bool) -> bool
+    ensures { λ r. ⌜ r ≡ misnamed owner seat unknown ⌝ }
 {
     if OWNERS <= owner {
         return true;
@@ -186,7 +181,7 @@ fn is_misnamed(records: u64, owner: u64, seat: u64, item: u64) -> bool
     if SEATS <= seat {
         return true;
     }
-    records <= item
+    unknown
 }
 
 // REFUSAL 3: a damaged row.
@@ -208,7 +203,7 @@ fn is_late(phase: u64, time: u64) -> bool
 }
 
 fn is_bad_head(head: Head) -> bool
-    ensures { λ r. ⌜ r ≡ badHead head ⌝ }
+    ensures { λ r. ⌜ r ≡ badHead (headRow head) ⌝ }
 {
     if STORING < head.phase {
         return true;
@@ -228,24 +223,24 @@ fn is_bad_head(head: Head) -> bool
     is_late(head.phase, head.time)
 }
 
-fn is_bad_read(item: u64, kept: u64, records: u64, phase: u64, time: u64) -> bool
-    ensures { λ r. ⌜ r ≡ oneOf (leb records item ∷ (leb 3 phase && ltb time kept) ∷ []) ⌝ }
+fn is_bad_read(item: u64, kept_write: u64, records: u64, phase: u64, time: u64) -> bool
+    ensures { λ r. ⌜ ((g : List ℕ) (i : ℕ) → ReadOf g i item «kept_write» phase time → r ≡ badRead g records i) ⌝ }
 {
     if records <= item {
         return true;
     }
-    CHECKING <= phase && time < kept
+    CHECKING <= phase && time < kept_write
 }
 
-fn some_bad_read(row: &[u64], reads: u64, records: u64, phase: u64, time: u64) -> bool
-    requires { ⌜ (reads ≤ mostReads) × (phase ≡ phaseOf (now row)) × (time ≡ timeOf (now row)) ⌝ }
-    ensures { λ r. ⌜ r ≡ any (badRead (now (row .entry)) records) reads ⌝ }
+fn some_bad_read(row: &[u64], head: Head, records: u64) -> bool
+    requires { ⌜ HeadOf (now row) head × (head .reads ≤ mostReads) ⌝ }
+    ensures { λ r. ⌜ r ≡ any (badRead (now (row .entry)) records) (head .reads) ⌝ }
 {
     let mut i = 0;
-    while i < reads {
+    while i < head.reads {
         let item = at(row, READ_ITEM + READ_WIDTH * i);
-        let kept = at(row, KEPT_WRITE + READ_WIDTH * i);
-        if is_bad_read(item, kept, records, phase, time) {
+        let kept_write = at(row, KEPT_WRITE + READ_WIDTH * i);
+        if is_bad_read(item, kept_write, records, head.phase, head.time) {
             return true;
         }
         i += 1;
@@ -268,7 +263,7 @@ fn some_bad_write(row: &[u64], writes: u64, records: u64) -> bool
 }
 
 fn is_damaged(row: &[u64], head: Head, records: u64) -> bool
-    requires { ⌜ head ≡ headOf (now row) ⌝ }
+    requires { ⌜ HeadOf (now row) head ⌝ }
     ensures { λ r. ⌜ r ≡ damaged (now (row .entry)) records ⌝ }
 {
     if head.phase == FREE {
@@ -277,50 +272,57 @@ fn is_damaged(row: &[u64], head: Head, records: u64) -> bool
     if is_bad_head(head) {
         return true;
     }
-    if some_bad_read(row, head.reads, records, head.phase, head.time) {
+    if some_bad_read(row, head, records) {
         return true;
     }
     some_bad_write(row, head.writes, records)
 }
 
-// REFUSALS 3 TO 5, from the row.
-fn row_refusal(row: &[u64], records: u64, owner: u64, last: u64) -> u64
-    ensures { λ r. ⌜ r ≡ rowRefusal (now (row .entry)) records owner last ⌝ }
+// ADMITTING A CALL that names a seat
+// Whether it is refused, or may begin, with the head of its row.
+pub enum Admission {
+    Refused(u64),
+    Ready(Head),
+}
+
+// Refusals 3 to 5, from the row. `last` is the last phase that the call is for.
+fn admit_to_row(row: &[u64], records: u64, owner: u64, last: u64) -> Admission
+    ensures { λ r. ⌜ r ≡ admission (rowRefusal (now (row .entry)) records owner last) (now (row .entry)) ⌝ }
 {
     let head = head_of(row);
     if is_damaged(row, head, records) {
-        return 3;
+        return Admission::Refused(3);
     }
     if head.phase == FREE {
-        return 4;
+        return Admission::Refused(4);
     }
     if head.owner != owner {
-        return 4;
+        return Admission::Refused(4);
     }
     if last < head.phase {
-        return 5;
+        return Admission::Refused(5);
     }
-    0
+    Admission::Ready(head)
 }
 
-// What a call that names a seat is refused for, lowest number first; 0 where it is not. `last` is the last phase that the call is for.
-pub fn refusal_of(
+// Refused for the lowest number that is due. `unknown`: the call names a record, and there is no such record.
+pub fn admit(
     values: &[u64],
     words: &[u64],
     seats: &[u64],
     owner: u64,
     seat: u64,
-    item: u64,
+    unknown: bool,
     last: u64,
-) -> u64
-    ensures { λ r. ⌜ RefusalIs (now (values .entry)) (now (words .entry)) (now (seats .entry)) owner seat item last r ⌝ }
+) -> Admission
+    ensures { λ r. ⌜ Admitted (lent values words seats) owner seat unknown last r ⌝ }
 {
     let records = words.len() as u64;
     if is_unsized(values.len() as u64, records, seats.len() as u64) {
-        return 1;
+        return Admission::Refused(1);
     }
-    if is_misnamed(records, owner, seat, item) {
-        return 2;
+    if is_misnamed(owner, seat, unknown) {
+        return Admission::Refused(2);
     }
-    row_refusal(row_of(seats, seat), records, owner, last)
+    admit_to_row(row_of(seats, seat), records, owner, last)
 }

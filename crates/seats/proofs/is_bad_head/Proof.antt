@@ -2,23 +2,24 @@
 use borrow.Author.Needs.{needs}
 use borrow.Author.Tests.{le-leb, le-ltb, lt-leb, lt-ltb}
 use Rattle.rules.specs.Tests.{oneOf}
-use Rattle.seats.specs.Heads.{badHead}
+use Rattle.rules.specs.Refusals.{badHead}
+use Rattle.seats.specs.Heads.{headRow}
 use Rattle.seats.proofs.is_bad_head.Statement.{statement}
 use Rattle.seats.proofs.is_bad_head.Tie as tie
 
 returns : tie.Need-returns
-unfolding badHead oneOf
+unfolding badHead headRow oneOf
 returns c = simp (lt-ltb _ _ (c .if1 .taken))
 
 returns-2 : tie.Need-returns-2
-unfolding badHead oneOf
+unfolding badHead headRow oneOf
 returns-2 c = simp (
   le-leb _ _ (c .if2 .taken),
   le-ltb _ _ (c .before .before .if1 .left),
 )
 
 returns-3 : tie.Need-returns-3
-unfolding badHead oneOf
+unfolding badHead headRow oneOf
 returns-3 c = simp (
   lt-ltb _ _ (c .if3 .taken),
   lt-leb _ _ (c .before .before .if2 .left),
@@ -26,7 +27,7 @@ returns-3 c = simp (
 )
 
 returns-4 : tie.Need-returns-4
-unfolding badHead oneOf
+unfolding badHead headRow oneOf
 returns-4 c = simp (
   lt-ltb _ _ (c .if4 .taken),
   le-ltb _ _ (c .before .before .if3 .left),
@@ -38,7 +39,7 @@ is-misplaced-requires : tie.Need-is-misplaced-requires
 is-misplaced-requires c κs = search needs
 
 returns-5 : tie.Need-returns-5
-unfolding badHead oneOf
+unfolding badHead headRow oneOf
 returns-5 c = simp (
   c .if5 .taken,
   ← c .before .is-misplaced .ensures,
@@ -52,7 +53,7 @@ is-late-requires : tie.Need-is-late-requires
 is-late-requires c κs = search needs
 
 returns-6 : tie.Need-returns-6
-unfolding badHead oneOf
+unfolding badHead headRow oneOf
 returns-6 c = simp (
   ← c .is-late .ensures,
   c .before .if5 .left,
