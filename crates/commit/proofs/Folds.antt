@@ -21,7 +21,8 @@ pub due-none : (words g : List ℕ) (from : ℕ) → from ≡ dueTime words g fr
 unfolding dueTime
 due-none words g from = refl
 
-pub due-more : (words g : List ℕ) (from i : ℕ) {time item word read r : ℕ} → time ≡ dueTime words g from i → item ≡ writeItem g i → word ≡ getD words item 0 → read ≡ readTime word → r ≡ max time (read + 1) → r ≡ dueTime words g from (i + 1)
+pub due-more : (words g : List ℕ) (from i : ℕ) {time item word read r : ℕ} → time ≡ dueTime words g from i →
+    item ≡ writeItem g i → word ≡ getD words item 0 → read ≡ readTime word → r ≡ max time (read + 1) → r ≡ dueTime words g from (i + 1)
 unfolding dueTime
 due-more words g from i e x y t m = rw (add-one i) (cc)
 
@@ -29,6 +30,7 @@ pub released-none : (words g : List ℕ) → words ≡ released words g 0
 unfolding released
 released-none words g = refl
 
-pub released-more : (words₀ g : List ℕ) (i : ℕ) {words words′ : List ℕ} {item word free : ℕ} → words ≡ released words₀ g i → item ≡ writeItem g i → word ≡ getD words item 0 → free ≡ withLock false word → words′ ≡ set words item free → words′ ≡ released words₀ g (i + 1)
+pub released-more : (words₀ g : List ℕ) (i : ℕ) {words words′ : List ℕ} {item word free : ℕ} → words ≡ released words₀ g i →
+    item ≡ writeItem g i → word ≡ getD words item 0 → free ≡ withLock false word → words′ ≡ set words item free → words′ ≡ released words₀ g (i + 1)
 unfolding released
 released-more words₀ g i e x y u m = rw (add-one i) (cc)

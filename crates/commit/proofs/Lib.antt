@@ -3,4 +3,3 @@ pub mod Folds
 pub mod Entries
 pub mod Words
 pub mod Checks
-pub mod Phases

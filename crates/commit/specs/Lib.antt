@@ -1,3 +1,3 @@
--- What the code of Advance is stated by, beside the rules (Checks), and what Advance and Abandon promise (Promises).
-pub mod Checks
+-- What the code of Advance is stated by, beside the rules (Steps), and what Advance and Abandon promise (Promises).
+pub mod Steps
 pub mod Promises

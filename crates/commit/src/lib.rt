@@ -1,35 +1,42 @@
 // Advance and Abandon: a commit, step by step, and its end before that.
 ghost use mathlib.Core.Path.{_≡_};
-ghost use mathlib.Core.Bool.{cond, _&&_};
-ghost use mathlib.Core.List.{List};
-ghost use Prim.Native.Nat.{ℕ, _+_, _<_, _≤_};
-ghost use lib.Dec.{eqb, leb};
+ghost use Prim.Native.Nat.{ℕ, _≤_};
 ghost use lib.ListN.{length};
-ghost use Rattle.clock.specs.Word.{top, writeTime, fresh, extended};
-ghost use Rattle.rules.specs.Layout.{mostReads, mostWrites, positionAt, row, put, time as timeOf};
+ghost use Rattle.clock.specs.Word.{top, isLocked, writeTime, readTime, fresh, extended};
+ghost use Rattle.rules.specs.Layout.{mostReads, mostWrites, row, time as timeOf};
 ghost use Rattle.rules.specs.Tables.{Tables};
 ghost use Rattle.rules.specs.Lent.{lent, left, lentLocks, leftLocks, lentSeats, leftSeats};
-ghost use Rattle.rules.specs.Advance.{released, letGo, moved, lockStep, seenTime, dueTime, timeStep, checkStep, sealStep, storeStep, doneStep};
-ghost use Rattle.rules.specs.Advance.{lockPhase, checkPhase, storePhase, advanceIn};
+ghost use Rattle.rules.specs.Advance.{heldLocks, released, letGo, moved, lockStep, seenTime, dueTime, timeStep, isBlocked, byWord, passedTo, checkStep};
+ghost use Rattle.rules.specs.Advance.{sealStep, storeStep, doneStep, lockPhase, checkPhase, storePhase, advanceIn};
 ghost use Rattle.rules.specs.declared.Answer.{Answer};
 ghost use Rattle.rules.specs.declared.Answer.the-variants.{Aborted};
-ghost use Rattle.seats.specs.Ready.{Ready};
-ghost use Rattle.commit.specs.Checks.{Checks, wordVerdict};
+ghost use Rattle.seats.specs.Heads.{headRow};
+ghost use Rattle.seats.specs.Ready.{InUse};
+ghost use Rattle.commit.specs.Steps.{Holding, Locking, LocksNext, Checking, ChecksNext, ChecksWord, Storing, StoresNext};
 ghost use Rattle.commit.specs.Promises.{AdvanceAnswered, AbandonAnswered};
 use clock::Packed;
 use rules::Answer;
 use rules::Verdict;
+use seats::Admission;
 use seats::Head;
+use seats::admit;
 use seats::at;
 use seats::free_row;
 use seats::give;
 use seats::greater;
-use seats::head_at;
 use seats::layout::*;
-use seats::refusal_of;
 use seats::row_of;
 use seats::store;
 use seats::write_of;
+
+// The numbers of an abort.
+const WORD_LOCKED: u64 = 21;
+
+const VERSION_GONE: u64 = 22;
+
+const WORD_BLOCKED: u64 = 23;
+
+const TIME_RUN_OUT: u64 = 24;
 
 // LETTING GO: an abort and Abandon
 // Clears the locks of a row's first n write entries.
@@ -48,7 +55,7 @@ fn release(words: &mut [u64], row: &[u64], n: u64)
 
 // How many of its write entries a row in phases 1 to 3 holds the locks of.
 fn held_locks(head: Head) -> u64
-    ensures { λ r. ⌜ r ≡ cond (eqb (head .phase) 3) (head .writes) (head .position) ⌝ }
+    ensures { λ r. ⌜ r ≡ heldLocks (headRow head) ⌝ }
 {
     if head.phase == CHECKING {
         return head.writes;
@@ -57,7 +64,7 @@ fn held_locks(head: Head) -> u64
 }
 
 fn let_go(words: &mut [u64], seats: &mut [u64], seat: u64, head: Head)
-    requires { ⌜ Ready (row (now seats) seat) (length (now words)) head × (head .phase ≤ 3) ⌝ }
+    requires { ⌜ Holding (row (now seats) seat) (length (now words)) head ⌝ }
     ensures { λ _. ⌜ ((t : Tables) (a : Answer) → leftLocks t a words seats ≡ letGo (lentLocks t words seats) seat a) ⌝ }
 {
     let held = held_locks(head);
@@ -66,7 +73,7 @@ fn let_go(words: &mut [u64], seats: &mut [u64], seat: u64, head: Head)
 }
 
 fn abort(words: &mut [u64], seats: &mut [u64], seat: u64, head: Head, why: u64) -> Answer
-    requires { ⌜ Ready (row (now seats) seat) (length (now words)) head × (head .phase ≤ 3) ⌝ }
+    requires { ⌜ Holding (row (now seats) seat) (length (now words)) head ⌝ }
     ensures { λ r. ⌜ ((t : Tables) → leftLocks t r words seats ≡ letGo (lentLocks t words seats) seat (Aborted why)) ⌝ }
 {
     let_go(words, seats, seat, head);
@@ -82,7 +89,7 @@ fn move_to(seats: &mut [u64], seat: u64, phase: u64, position: u64)
 }
 
 fn lock_step(words: &mut [u64], seats: &mut [u64], seat: u64, head: Head) -> Answer
-    requires { ⌜ Ready (row (now seats) seat) (length (now words)) head × (head .phase ≤ 2) × (head .position < head .writes) ⌝ }
+    requires { ⌜ LocksNext (row (now seats) seat) (length (now words)) head ⌝ }
     ensures { λ r. ⌜ ((t : Tables) → leftLocks t r words seats ≡ lockStep (lentLocks t words seats) seat) ⌝ }
 {
     let item = at(
@@ -91,7 +98,7 @@ fn lock_step(words: &mut [u64], seats: &mut [u64], seat: u64, head: Head) -> Ans
     );
     let word = at(words, item);
     if clock::is_locked(word) {
-        return abort(words, seats, seat, head, 21);
+        return abort(words, seats, seat, head, WORD_LOCKED);
     }
     store(words, item, clock::lock(word));
     move_to(seats, seat, LOCKING, head.position + 1);
@@ -128,13 +135,13 @@ fn due_time(words: &[u64], row: &[u64], from: u64, n: u64) -> u64
 }
 
 fn time_step(words: &mut [u64], seats: &mut [u64], seat: u64, head: Head) -> Answer
-    requires { ⌜ Ready (row (now seats) seat) (length (now words)) head × (head .phase ≤ 2) ⌝ }
+    requires { ⌜ Locking (row (now seats) seat) (length (now words)) head ⌝ }
     ensures { λ r. ⌜ ((t : Tables) → leftLocks t r words seats ≡ timeStep (lentLocks t words seats) seat) ⌝ }
 {
     let row = row_of(seats, seat);
     let time = due_time(words, row, seen_time(row, head.reads), head.writes);
     if clock::top() < time {
-        return abort(words, seats, seat, head, 24);
+        return abort(words, seats, seat, head, TIME_RUN_OUT);
     }
     move_to(seats, seat, CHECKING, 0);
     give(seats, seat, TIME, time);
@@ -142,26 +149,26 @@ fn time_step(words: &mut [u64], seats: &mut [u64], seat: u64, head: Head) -> Ans
 }
 
 // CHECKING
-// Another transaction's lock, with a read time not above the time.
+// Another transaction's lock, with a read time not above the time. `locked` and `read` are the word's.
 fn is_blocked(locked: bool, read: u64, time: u64) -> bool
-    ensures { λ r. ⌜ r ≡ (locked && leb read time) ⌝ }
+    ensures { λ r. ⌜ ((word : ℕ) → locked ≡ isLocked word → read ≡ readTime word → r ≡ isBlocked word time) ⌝ }
 {
     locked && read <= time
 }
 
 // The check of a read entry by its word, where the kept read time does not cover the time.
-fn judge(wrote: u64, time: u64, word: u64, own: bool) -> Verdict
-    ensures { λ r. ⌜ r ≡ wordVerdict wrote time word own ⌝ }
+fn judge(kept_write: u64, time: u64, word: u64, own: bool) -> Verdict
+    ensures { λ r. ⌜ r ≡ byWord «kept_write» time word own ⌝ }
 {
-    if clock::write_time(word) != wrote {
-        return Verdict::Fails(22);
+    if clock::write_time(word) != kept_write {
+        return Verdict::Fails(VERSION_GONE);
     }
     if own {
         return Verdict::Passes;
     }
     let read = clock::read_time(word);
     if is_blocked(clock::is_locked(word), read, time) {
-        return Verdict::Fails(23);
+        return Verdict::Fails(WORD_BLOCKED);
     }
     if read < time {
         return Verdict::Extends;
@@ -183,7 +190,7 @@ fn extended_word(word: u64, time: u64) -> u64
 // Passing a check: position up by one.
 fn pass(seats: &mut [u64], seat: u64, position: u64, item: u64) -> Answer
     requires { ⌜ position ≤ mostReads ⌝ }
-    ensures { λ r. ⌜ (r ≡ Answer.Checked item) × (now (seats .exit) ≡ put (now (seats .entry)) seat positionAt (position + 1)) ⌝ }
+    ensures { λ r. ⌜ ((t : Tables) → leftSeats t r seats ≡ passedTo (lentSeats t seats) seat position item) ⌝ }
 {
     give(seats, seat, POSITION, position + 1);
     Answer::Checked(item)
@@ -195,16 +202,16 @@ fn check_word(
     seat: u64,
     head: Head,
     item: u64,
-    wrote: u64,
+    kept_write: u64,
 ) -> Answer
-    requires { ⌜ Checks (row (now seats) seat) (length (now words)) head item wrote ⌝ }
+    requires { ⌜ ChecksWord (row (now seats) seat) (length (now words)) head item «kept_write» ⌝ }
     ensures { λ r. ⌜ ((t : Tables) → leftLocks t r words seats ≡ checkStep (lentLocks t words seats) seat) ⌝ }
 {
     let word = at(words, item);
     let row = row_of(seats, seat);
     let w = write_of(row, head.writes, item);
     let own = w < head.writes;
-    let found = judge(wrote, head.time, word, own);
+    let found = judge(kept_write, head.time, word, own);
     match found {
         Verdict::Passes => pass(seats, seat, head.position, item),
         Verdict::Extends => {
@@ -217,16 +224,16 @@ fn check_word(
 
 // Where the kept read time covers the time, the entry passes and nothing else is looked at.
 fn check_step(words: &mut [u64], seats: &mut [u64], seat: u64, head: Head) -> Answer
-    requires { ⌜ Ready (row (now seats) seat) (length (now words)) head × (head .phase ≡ 3) × (head .position < head .reads) ⌝ }
+    requires { ⌜ ChecksNext (row (now seats) seat) (length (now words)) head ⌝ }
     ensures { λ r. ⌜ ((t : Tables) → leftLocks t r words seats ≡ checkStep (lentLocks t words seats) seat) ⌝ }
 {
     let row = row_of(seats, seat);
     let item = at(row, READ_ITEM + READ_WIDTH * head.position);
-    let wrote = at(row, KEPT_WRITE + READ_WIDTH * head.position);
+    let kept_write = at(row, KEPT_WRITE + READ_WIDTH * head.position);
     if head.time <= at(row, KEPT_READ + READ_WIDTH * head.position) {
         return pass(seats, seat, head.position, item);
     }
-    check_word(words, seats, seat, head, item, wrote)
+    check_word(words, seats, seat, head, item, kept_write)
 }
 
 fn seal_step(seats: &mut [u64], seat: u64, time: u64) -> Answer
@@ -256,7 +263,7 @@ fn store_step(
     seat: u64,
     head: Head,
 ) -> Answer
-    requires { ⌜ Ready (row (now seats) seat) (length (now words)) head × (head .phase ≡ 4) × (head .position < head .writes) ⌝ }
+    requires { ⌜ StoresNext (row (now seats) seat) (length (now words)) head ⌝ }
     ensures { λ r. ⌜ left r values words seats ≡ storeStep (lent values words seats) seat ⌝ }
 {
     let row = row_of(seats, seat);
@@ -278,7 +285,7 @@ fn done_step(seats: &mut [u64], seat: u64, time: u64) -> Answer
 
 // ADVANCE
 fn lock_phase(words: &mut [u64], seats: &mut [u64], seat: u64, head: Head) -> Answer
-    requires { ⌜ Ready (row (now seats) seat) (length (now words)) head × (head .phase ≤ 2) ⌝ }
+    requires { ⌜ Locking (row (now seats) seat) (length (now words)) head ⌝ }
     ensures { λ r. ⌜ ((t : Tables) → leftLocks t r words seats ≡ lockPhase (lentLocks t words seats) seat) ⌝ }
 {
     let held = head.position;
@@ -289,7 +296,7 @@ fn lock_phase(words: &mut [u64], seats: &mut [u64], seat: u64, head: Head) -> An
 }
 
 fn check_phase(words: &mut [u64], seats: &mut [u64], seat: u64, head: Head) -> Answer
-    requires { ⌜ Ready (row (now seats) seat) (length (now words)) head × (head .phase ≡ 3) ⌝ }
+    requires { ⌜ Checking (row (now seats) seat) (length (now words)) head ⌝ }
     ensures { λ r. ⌜ ((t : Tables) → leftLocks t r words seats ≡ checkPhase (lentLocks t words seats) seat) ⌝ }
 {
     if head.position < head.reads {
@@ -305,7 +312,7 @@ fn store_phase(
     seat: u64,
     head: Head,
 ) -> Answer
-    requires { ⌜ Ready (row (now seats) seat) (length (now words)) head × (head .phase ≡ 4) ⌝ }
+    requires { ⌜ Storing (row (now seats) seat) (length (now words)) head ⌝ }
     ensures { λ r. ⌜ left r values words seats ≡ storePhase (lent values words seats) seat ⌝ }
 {
     if head.position < head.writes {
@@ -321,7 +328,7 @@ fn advance_in(
     seat: u64,
     head: Head,
 ) -> Answer
-    requires { ⌜ Ready (row (now seats) seat) (length (now words)) head ⌝ }
+    requires { ⌜ InUse (row (now seats) seat) (length (now words)) head ⌝ }
     ensures { λ r. ⌜ left r values words seats ≡ advanceIn (lent values words seats) seat ⌝ }
 {
     let phase = head.phase;
@@ -344,12 +351,11 @@ pub fn advance(
 ) -> Answer
     ensures { λ r. ⌜ AdvanceAnswered (lent values words seats) owner seat (left r values words seats) ⌝ }
 {
-    let why = refusal_of(values, words, seats, owner, seat, 0, STORING);
-    if why != 0 {
-        return Answer::Refused(why);
+    let admission = admit(values, words, seats, owner, seat, false, STORING);
+    match admission {
+        Admission::Refused(why) => Answer::Refused(why),
+        Admission::Ready(head) => advance_in(values, words, seats, seat, head),
     }
-    let head = head_at(seats, seat);
-    advance_in(values, words, seats, seat, head)
 }
 
 // ABANDON: releases the held locks and frees the row.
@@ -362,11 +368,12 @@ pub fn abandon(
 ) -> Answer
     ensures { λ r. ⌜ AbandonAnswered (lent values words seats) owner seat (left r values words seats) ⌝ }
 {
-    let why = refusal_of(values, words, seats, owner, seat, 0, CHECKING);
-    if why != 0 {
-        return Answer::Refused(why);
+    let admission = admit(values, words, seats, owner, seat, false, CHECKING);
+    match admission {
+        Admission::Refused(why) => Answer::Refused(why),
+        Admission::Ready(head) => {
+            let_go(words, seats, seat, head);
+            Answer::Dropped(seat)
+        }
     }
-    let head = head_at(seats, seat);
-    let_go(words, seats, seat, head);
-    Answer::Dropped(seat)
 }

@@ -112,11 +112,14 @@ judged t s =
 unfoldable pub stretched : List ℕ → List ℕ → List ℕ
 stretched words g = set words (checkItem g) (extended (getD words (checkItem g) 0) (time g))
 
--- passing: position up by one
+-- passing, from a position and its record: position up by one
+unfoldable pub passedTo : Tables → ℕ → ℕ → ℕ → Outcome
+passedTo t s p item = answered (Checked item) (withSeats t (put (t .seats) s positionAt (p + 1)))
+
 unfoldable pub passed : Tables → ℕ → List ℕ → Outcome
 passed t s words =
     let g : List ℕ = row (t .seats) s in
-    answered (Checked (checkItem g)) (withSeats (withWords t words) (put (t .seats) s positionAt (position g + 1)))
+    passedTo (withWords t words) s (position g) (checkItem g)
 
 unfoldable pub ruled : Tables → ℕ → Verdict → Outcome
 ruled t s Passes = passed t s (t .words)

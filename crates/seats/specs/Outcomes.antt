@@ -6,12 +6,13 @@ use native.Mathlib.Omega.{arith}
 use lib.ListN.{getD}
 use Rattle.rules.specs.Tests.{first}
 use Rattle.rules.specs.Layout.{mostReads, mostWrites, put, reads, writes}
-use Rattle.rules.specs.Tables.{after}
+use Rattle.rules.specs.Tables.{tables, answered}
 use Rattle.rules.specs.Work.{readNames, writeNames, readOf, writeOf}
 use Rattle.rules.specs.declared.Answer.{Answer}
 
 -- two outcomes are the same where their parts are
-pub same : {r r′ : Answer} {v v′ w w′ s s′ : List ℕ} → r ≡ r′ → v ≡ v′ → w ≡ w′ → s ≡ s′ → after r v w s ≡ after r′ v′ w′ s′
+pub same : {r r′ : Answer} {v v′ w w′ s s′ : List ℕ} → r ≡ r′ → v ≡ v′ → w ≡ w′ → s ≡ s′ →
+    answered r (tables v w s) ≡ answered r′ (tables v′ w′ s′)
 same r v w s = cc
 
 -- a store after other stores
@@ -25,8 +26,12 @@ module _ {g part : List ℕ} (e : part ≡ g) where
   -- the entry that names a record, in a row that has no more entries than a row can have
   pub read-of : (item : ℕ) {n r : ℕ} → n ≡ reads g → n ≤ mostReads → r ≡ first (readNames part item) (min n mostReads) → readOf g item ≡ r
   unfolding readOf
-  read-of item {n} a l q = rw (← a, ← e) (sym (q ∙ ap (first (readNames part item)) (let z : min n mostReads ≡ n = omega arith in z)))
+  read-of item {n} a l q =
+      let z : min n mostReads ≡ n = omega arith in
+      rw (← a, ← e) (sym (q ∙ ap (first (readNames part item)) z))
 
   pub write-of : (item : ℕ) {n w : ℕ} → n ≡ writes g → n ≤ mostWrites → w ≡ first (writeNames part item) (min n mostWrites) → writeOf g item ≡ w
   unfolding writeOf
-  write-of item {n} a l q = rw (← a, ← e) (sym (q ∙ ap (first (writeNames part item)) (let z : min n mostWrites ≡ n = omega arith in z)))
+  write-of item {n} a l q =
+      let z : min n mostWrites ≡ n = omega arith in
+      rw (← a, ← e) (sym (q ∙ ap (first (writeNames part item)) z))

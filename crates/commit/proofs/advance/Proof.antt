@@ -1,59 +1,45 @@
 -- `commit::advance` meets its contract. Assumes nothing.
 use mathlib.Core.Path.{_∙_, sym}
 use borrow.Author.Needs.{needs}
-use borrow.Author.Tests.{eq-eqb, ne-eqb}
 use Rattle.rules.specs.Advance.{advance}
-use Rattle.seats.specs.Ready.{ready}
+use Rattle.seats.specs.Ready.{in-use, ready-call, refused-call}
 use Rattle.commit.proofs.advance.Statement.{statement}
 use Rattle.commit.proofs.advance.Tie as tie
 
-refusal-of-requires : tie.Need-refusal-of-requires
-refusal-of-requires c κs = search needs
-
-same-length : tie.Need-same-length
-same-length c = search needs
-
-same-length-2 : tie.Need-same-length-2
-same-length-2 c = search needs
-
-same-length-3 : tie.Need-same-length-3
-same-length-3 c = search needs
-
 returns : tie.Need-returns
 unfolding advance
-returns c = simp (ne-eqb _ _ (c .if1 .taken), ← c .before .refusal-of .ensures)
-
-head-at-requires : tie.Need-head-at-requires
-head-at-requires c κs = search needs
+returns c =
+    let refused : tie.After-admission = c .before in
+    let at-admit : tie.After-admit = refused .before .before in
+    refused-call _ _ _ _ _ (sym (at-admit .admit .ensures) ∙ refused .admission .given .1)
 
 advance-in-requires : tie.Need-advance-in-requires
-advance-in-requires c κs = ready _ _ _ _ _ (sym (c .before .before .before .before .before .before .refusal-of .ensures) ∙ c .before .before .before .before .before .if1 .left) (c .before .before .before .head-at .ensures)
-
-same-length-4 : tie.Need-same-length-4
-same-length-4 c = search needs
-
-same-length-5 : tie.Need-same-length-5
-same-length-5 c = search needs
-
-same-length-6 : tie.Need-same-length-6
-same-length-6 c = search needs
+advance-in-requires c κs =
+    let ready : tie.After-admission2 = search in
+    let at-admit : tie.After-admit = ready .before .before in
+    in-use _ _ _ _ _ _ (sym (at-admit .admit .ensures) ∙ ready .admission2 .given .1)
 
 returns-2 : tie.Need-returns-2
 unfolding advance
-returns-2 c = simp (eq-eqb _ _ (c .before .before .before .before .before .before .before .before .before .before .before .before .if1 .left), ← c .before .before .before .before .before .before .before .before .before .before .before .before .before .refusal-of .ensures) (c .before .before .before .before .before .before .advance-in .ensures)
+returns-2 c =
+    let at-step : tie.After-advance-in = search in
+    let ready : tie.After-admission2 = search (at-step) in
+    let at-admit : tie.After-admit = ready .before .before in
+    at-step .advance-in .ensures ∙ sym (ready-call _ _ _ _ _ _ (sym (at-admit .admit .ensures) ∙ ready .admission2 .given .1) _)
 
 pub advance-spec : {M : Type 1} → statement M
 advance-spec =
     tie.close
     (tie.spec
-    refusal-of-requires
-    same-length
-    same-length-2
-    same-length-3
-    returns
-    head-at-requires
+    (search needs)
+    (search needs)
+    (search needs)
     advance-in-requires
-    same-length-4
-    same-length-5
-    same-length-6
+    (search needs)
+    (search needs)
+    (search needs)
+    returns
+    (search needs)
+    (search needs)
+    (search needs)
     returns-2)

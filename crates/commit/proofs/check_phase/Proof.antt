@@ -1,41 +1,36 @@
 -- `commit::check_phase` meets its contract. Assumes nothing.
-use borrow.Author.Needs.{needs}
 use borrow.Author.Tests.{le-ltb, lt-ltb}
+use borrow.Author.Needs.{needs}
 use Rattle.rules.specs.Advance.{checkPhase}
 use Rattle.commit.proofs.check_phase.Statement.{statement}
 use Rattle.commit.proofs.check_phase.Tie as tie
 
-check-step-requires : tie.Need-check-step-requires
-check-step-requires c κs = search needs
-
-same-length : tie.Need-same-length
-same-length c = search needs
-
-same-length-2 : tie.Need-same-length-2
-same-length-2 c = search needs
-
 returns : tie.Need-returns
 unfolding checkPhase
-returns c = λ v. simp (← c .before .before .before .before .before .before .before .before .before .before .before .pre .0 .head .position-is, ← c .before .before .before .before .before .before .before .before .before .before .before .pre .0 .head .reads-is, lt-ltb _ _ (c .before .before .before .before .before .before .before .if1 .taken)) (c .before .before .before .before .check-step .ensures v)
-
-seal-step-requires : tie.Need-seal-step-requires
-seal-step-requires c κs = search needs
-
-same-length-3 : tie.Need-same-length-3
-same-length-3 c = search needs
+returns c = λ t.
+    let at-step : tie.After-check-step = search in
+    let below : tie.Then1 = search (at-step) in
+    let start : tie.Start = search (below) in
+    let head = start .pre .in-use .head in
+    simp (← head .position-is, ← head .reads-is, lt-ltb _ _ (below .if1 .taken)) (at-step .check-step .ensures t)
 
 returns-2 : tie.Need-returns-2
 unfolding checkPhase
-returns-2 c = λ v. simp (← c .before .before .before .before .before .before .before .before .pre .0 .head .position-is, ← c .before .before .before .before .before .before .before .before .pre .0 .head .reads-is, le-ltb _ _ (c .before .before .before .before .if1 .left)) (c .before .before .seal-step .ensures v _)
+returns-2 c = λ t.
+    let at-step : tie.After-seal-step = search in
+    let all-checked : tie.Else1 = search (at-step) in
+    let start : tie.Start = search (all-checked) in
+    let head = start .pre .in-use .head in
+    simp (← head .position-is, ← head .reads-is, le-ltb _ _ (all-checked .if1 .left)) (at-step .seal-step .ensures _)
 
 pub check-phase-spec : {M : Type 1} → statement M
 check-phase-spec =
     tie.close
     (tie.spec
-    check-step-requires
-    same-length
-    same-length-2
+    (search needs)
+    (search needs)
+    (search needs)
     returns
-    seal-step-requires
-    same-length-3
+    (search needs)
+    (search needs)
     returns-2)

@@ -1,101 +1,96 @@
 -- `commit::check_word` meets its contract. Assumes nothing.
-use mathlib.Core.Path.{_∙_, refl, sym}
+use mathlib.Core.Path.{_≡_, _∙_, sym}
 use native.Mathlib.Omega.{arith}
 use borrow.Author.Needs.{needs}
-use Rattle.rules.specs.Advance.{checkStep, ruled}
-use Rattle.commit.proofs.Checks.{extends-kept, is-extends, is-passes, judged-word, may-extend, passed-as, stretched-as}
+use denote.Ref.{now}
+use Rattle.rules.specs.Tables.{Tables, withWords, withSeats}
+use Rattle.rules.specs.Advance.{judged}
+use Rattle.rules.specs.declared.Verdict.the-variants.{Passes, Extends}
 use Rattle.seats.specs.Outcomes.{write-of}
+use Rattle.commit.proofs.Checks.{check-extends, check-fails, check-passes, extends-kept, is-extends, is-passes, judged-word, may-extend}
 use Rattle.commit.proofs.check_word.Statement.{statement}
 use Rattle.commit.proofs.check_word.Tie as tie
 
-at-requires : tie.Need-at-requires
-at-requires c κs = search needs
+abbrev start : tie.After-judge → tie.Start
+start c =
+    let at-word : tie.After-at = search in
+    search (at-word)
 
-row-of-requires : tie.Need-row-of-requires
-row-of-requires c κs = search needs
+-- the tables that the step works on: t has the values, which it is not lent
+abbrev found : Tables → tie.Start → Tables
+found t s = withSeats (withWords t (now (s .args .words))) (now (s .args .seats))
 
-write-of-requires : tie.Need-write-of-requires
-write-of-requires c κs = search needs
+-- WHERE THE VERDICT IS KNOWN, it is the rules': all three arms begin here
+verdict-is : (t : Tables) (c : tie.After-judge) → judged (found t (start c)) (start c .args .seat) ≡ c .judge .result
+verdict-is t c =
+    let at-own : tie.After-write-of = search in
+    let at-row : tie.After-row-of = at-own .before in
+    let at-word : tie.After-at = search (at-row) in
+    let asked = start c .pre in
+    let head = asked .in-use .head in
+    let own = write-of (at-row .row-of .ensures) _ (head .writes-is) (omega arith) (at-own .write-of .ensures) in
+    judged-word _ _ head (asked .uncovered) (asked .item-is) (asked .kept-is) (at-word .at .ensures) own (c .judge .ensures)
 
-judge-requires : tie.Need-judge-requires
-judge-requires c κs = search needs
-
-enum-told : tie.Need-enum-told
-enum-told c = search needs
-
-pass-requires : tie.Need-pass-requires
-pass-requires c κs = search needs
-
-enum-told-2 : tie.Need-enum-told-2
-enum-told-2 c = search needs
-
-extended-word-requires : tie.Need-extended-word-requires
-extended-word-requires c κs = may-extend _ (c .before .before .before .before .before .before .before .before .before .before .before .before .pre) (extends-kept _ _ _ _ (sym (c .before .before .before .judge .ensures) ∙ is-extends (c .before .before .before .judge .result) (c .before .before .match .keys2)))
-
-store-requires : tie.Need-store-requires
-store-requires c κs = search needs
-
-pass-requires-2 : tie.Need-pass-requires-2
-pass-requires-2 c κs = search needs
-
-enum-known-found : tie.Need-enum-known-found
-enum-known-found c = search needs
-
-abort-requires : tie.Need-abort-requires
-abort-requires c κs = search needs
-
-same-length : tie.Need-same-length
-same-length c = search needs
-
-same-length-2 : tie.Need-same-length-2
-same-length-2 c = search needs
-
+-- THE ENTRY PASSES
 returns : tie.Need-returns
-unfolding checkStep ruled
-returns c = λ v. rw (judged-word _ (c .before .before .before .before .before .before .before .before .before .before .before .before .before .before .before .pre .ready .head) (c .before .before .before .before .before .before .before .before .before .before .before .before .before .before .before .pre .uncovered) (c .before .before .before .before .before .before .before .before .before .before .before .before .before .before .before .pre .item-is) (c .before .before .before .before .before .before .before .before .before .before .before .before .before .before .before .pre .wrote-is) (c .before .before .before .before .before .before .before .before .before .before .before .at .ensures) (write-of (c .before .before .before .before .before .before .before .before .before .row-of .ensures) _ (c .before .before .before .before .before .before .before .before .before .before .before .before .before .before .before .pre .ready .head .writes-is) (omega arith) (c .before .before .before .before .before .before .before .before .write-of .ensures)) (c .before .before .before .before .before .before .judge .ensures), is-passes (c .before .before .before .before .before .before .judge .result) (c .before .before .before .before .before .match .keys1)) (passed-as _ (c .before .before .before .before .before .before .before .before .before .before .before .before .before .before .before .pre .ready .head) _ _ refl v _ (c .before .before .before .before .before .before .before .before .before .before .before .before .before .before .before .pre .item-is) (c .before .before .pass .ensures .0) (c .before .before .pass .ensures .1))
+returns c = λ t.
+    let at-pass : tie.After-pass = search in
+    let passes : tie.At-match-keys1 = search (at-pass) in
+    let at-judge = passes .before in
+    let asked = start at-judge .pre in
+    at-pass .pass .ensures _
+    ∙ check-passes _ _ (asked .in-use .head) (asked .item-is) (verdict-is t at-judge ∙ is-passes _ (passes .match .keys1))
 
-same-length-3 : tie.Need-same-length-3
-same-length-3 c = search needs
-
-same-length-4 : tie.Need-same-length-4
-same-length-4 c = search needs
+-- THE WORD IS EXTENDED
+extended-word-requires : tie.Need-extended-word-requires
+extended-word-requires c κs =
+    let extends : tie.At-match-keys2 = search in
+    let at-judge = extends .before in
+    may-extend _ (start at-judge .pre) (extends-kept _ _ _ _ (sym (at-judge .judge .ensures) ∙ is-extends _ (extends .match .keys2)))
 
 returns-2 : tie.Need-returns-2
-unfolding checkStep ruled
-returns-2 c = λ v. rw (judged-word _ (c .before .before .before .before .before .before .before .before .before .before .before .before .before .before .before .before .before .before .before .before .pre .ready .head) (c .before .before .before .before .before .before .before .before .before .before .before .before .before .before .before .before .before .before .before .before .pre .uncovered) (c .before .before .before .before .before .before .before .before .before .before .before .before .before .before .before .before .before .before .before .before .pre .item-is) (c .before .before .before .before .before .before .before .before .before .before .before .before .before .before .before .before .before .before .before .before .pre .wrote-is) (c .before .before .before .before .before .before .before .before .before .before .before .before .before .before .before .before .at .ensures) (write-of (c .before .before .before .before .before .before .before .before .before .before .before .before .before .before .row-of .ensures) _ (c .before .before .before .before .before .before .before .before .before .before .before .before .before .before .before .before .before .before .before .before .pre .ready .head .writes-is) (omega arith) (c .before .before .before .before .before .before .before .before .before .before .before .before .before .write-of .ensures)) (c .before .before .before .before .before .before .before .before .before .before .before .judge .ensures), is-extends (c .before .before .before .before .before .before .before .before .before .before .before .judge .result) (c .before .before .before .before .before .before .before .before .before .before .match .keys2), stretched-as _ (c .before .before .before .before .before .before .before .before .before .before .before .before .before .before .before .before .before .before .before .before .pre .ready .head) (c .before .before .before .before .before .before .before .before .before .before .before .before .before .before .before .before .before .before .before .before .pre .item-is) (c .before .before .before .before .before .before .before .before .before .before .before .before .before .before .before .before .at .ensures) (c .before .before .before .before .before .before .before .extended-word .ensures) (c .before .before .before .before .before .before .store .ensures)) (passed-as _ (c .before .before .before .before .before .before .before .before .before .before .before .before .before .before .before .before .before .before .before .before .pre .ready .head) _ _ refl v _ (c .before .before .before .before .before .before .before .before .before .before .before .before .before .before .before .before .before .before .before .before .pre .item-is) (c .before .before .pass2 .ensures .0) (c .before .before .pass2 .ensures .1))
+returns-2 c = λ t.
+    let at-pass : tie.After-pass2 = search in
+    let at-store : tie.After-store = search (at-pass) in
+    let at-longer : tie.After-extended-word = at-store .before in
+    let extends : tie.At-match-keys2 = search (at-longer) in
+    let at-judge = extends .before in
+    let at-word : tie.After-at = search (at-judge) in
+    let asked = start at-judge .pre in
+    let verdict = verdict-is t at-judge ∙ is-extends _ (extends .match .keys2) in
+    at-pass .pass2 .ensures _
+    ∙ check-extends _ _ (asked .in-use .head) (asked .item-is) verdict (at-word .at .ensures) (at-longer .extended-word .ensures) (at-store .store .ensures)
 
-same-length-5 : tie.Need-same-length-5
-same-length-5 c = search needs
-
-same-length-6 : tie.Need-same-length-6
-same-length-6 c = search needs
-
+-- THE ENTRY FAILS
 returns-3 : tie.Need-returns-3
-unfolding checkStep ruled
-returns-3 c = λ v. rw (judged-word _ (c .before .before .before .before .before .before .before .before .before .before .before .before .before .before .before .before .before .before .before .pre .ready .head) (c .before .before .before .before .before .before .before .before .before .before .before .before .before .before .before .before .before .before .before .pre .uncovered) (c .before .before .before .before .before .before .before .before .before .before .before .before .before .before .before .before .before .before .before .pre .item-is) (c .before .before .before .before .before .before .before .before .before .before .before .before .before .before .before .before .before .before .before .pre .wrote-is) (c .before .before .before .before .before .before .before .before .before .before .before .before .before .before .before .at .ensures) (write-of (c .before .before .before .before .before .before .before .before .before .before .before .before .before .row-of .ensures) _ (c .before .before .before .before .before .before .before .before .before .before .before .before .before .before .before .before .before .before .before .pre .ready .head .writes-is) (omega arith) (c .before .before .before .before .before .before .before .before .before .before .before .before .write-of .ensures)) (c .before .before .before .before .before .before .before .before .before .before .judge .ensures), c .before .before .before .before .before .before .before .before .found .given .1) (c .before .before .before .before .abort .ensures v)
+returns-3 c = λ t.
+    let at-abort : tie.After-abort = search in
+    let fails : tie.After-found = search (at-abort) in
+    let at-judge = fails .before .before in
+    at-abort .abort .ensures t ∙ check-fails _ _ (verdict-is t at-judge ∙ fails .found .given .1)
 
 pub check-word-spec : {M : Type 1} → statement M
 check-word-spec =
     tie.close
     (tie.spec
-    at-requires
-    row-of-requires
-    write-of-requires
-    judge-requires
-    enum-told
-    pass-requires
-    enum-told-2
+    (search needs)
+    (search needs)
+    (search needs)
+    (search needs)
+    (search needs)
+    (search needs)
+    (search needs)
     extended-word-requires
-    store-requires
-    pass-requires-2
-    enum-known-found
-    abort-requires
-    same-length
-    same-length-2
+    (search needs)
+    (search needs)
+    (search needs)
+    (search needs)
+    (search needs)
+    (search needs)
     returns
-    same-length-3
-    same-length-4
+    (search needs)
+    (search needs)
     returns-2
-    same-length-5
-    same-length-6
+    (search needs)
+    (search needs)
     returns-3)

@@ -6,15 +6,17 @@ use Rattle.seats.specs.Outcomes.{same}
 use Rattle.commit.proofs.done_step.Statement.{statement}
 use Rattle.commit.proofs.done_step.Tie as tie
 
-free-row-requires : tie.Need-free-row-requires
-free-row-requires c κs = search needs
-
-same-length : tie.Need-same-length
-same-length c = search needs
-
 returns : tie.Need-returns
 unfolding doneStep
-returns c = λ v w. simp (← c .before .before .before .before .before .pre) (same refl refl refl (c .before .before .free-row .ensures))
+returns c = λ t.
+    let at-freed : tie.After-free-row = search in
+    let start : tie.Start = search (at-freed) in
+    simp (← start .pre) (same refl refl refl (at-freed .free-row .ensures))
 
 pub done-step-spec : {M : Type 1} → statement M
-done-step-spec = tie.close (tie.spec free-row-requires same-length returns)
+done-step-spec =
+    tie.close
+    (tie.spec
+    (search needs)
+    (search needs)
+    returns)

@@ -16,38 +16,18 @@ Inv-loop words row from n time₀ i₀ time i = (i ≤ n) × (time ≡ dueTime w
 abbrev μ-loop : tie.MeasureT-loop
 μ-loop words row from n time₀ i₀ time i = n - i
 
-loop-holds : tie.Need-loop-holds Inv-loop μ-loop
-loop-holds c = (omega arith, due-none _ _ _)
-
-mul-at : tie.Need-mul-at Inv-loop μ-loop
-mul-at c = omega arith
-
-add-at : tie.Need-add-at Inv-loop μ-loop
-add-at c = omega arith
-
-at-requires : tie.Need-at-requires Inv-loop μ-loop
-at-requires c κs = search needs
-
-at-requires-2 : tie.Need-at-requires-2 Inv-loop μ-loop
-at-requires-2 c κs = search needs
-
-read-time-requires : tie.Need-read-time-requires Inv-loop μ-loop
-read-time-requires c κs = search needs
-
+-- a read time is far from the end of 64 bits
 add-greater : tie.Need-add-greater Inv-loop μ-loop
 add-greater c = omega (arith, c .read-time .ensures, readTime-fits (c .before .at2 .result))
 
-greater-requires : tie.Need-greater-requires Inv-loop μ-loop
-greater-requires c κs = search needs
-
-add-i : tie.Need-add-i Inv-loop μ-loop
-add-i c = omega arith
-
-loop-less : tie.Need-loop-less Inv-loop μ-loop
-loop-less c = omega arith
-
 loop-again : tie.Need-loop-again Inv-loop μ-loop
-loop-again c = (omega arith, due-more _ _ _ _ (c .before .before .before .before .before .loop .inv .1) (c .before .before .before .at .ensures) (c .before .before .at2 .ensures) (c .before .read-time .ensures) (c .greater .ensures))
+loop-again c =
+    let at-read : tie.After-read-time Inv-loop μ-loop = c .before in
+    let at-word : tie.After-at2 Inv-loop μ-loop = at-read .before in
+    let at-item : tie.After-at Inv-loop μ-loop = at-word .before in
+    let at-loop : tie.At-loop Inv-loop μ-loop = search (at-item) in
+    let more = due-more _ _ _ _ (at-loop .loop .inv .1) (at-item .at .ensures) (at-word .at2 .ensures) (at-read .read-time .ensures) (c .greater .ensures) in
+    (omega arith, more)
 
 returns : tie.Need-returns Inv-loop μ-loop
 returns c = at-end (dueTime _ _ _) _ _ (c .before .loop .inv .1) (c .before .loop .inv .0) (c .loop-test .left)
@@ -58,15 +38,15 @@ due-time-spec =
     (tie.spec
     Inv-loop
     μ-loop
-    loop-holds
-    mul-at
-    add-at
-    at-requires
-    at-requires-2
-    read-time-requires
+    (λ c. (omega arith, due-none _ _ _))
+    (λ c. omega arith)
+    (λ c. omega arith)
+    (search needs)
+    (search needs)
+    (search needs)
     add-greater
-    greater-requires
-    add-i
-    loop-less
+    (search needs)
+    (λ c. omega arith)
+    (λ c. omega arith)
     loop-again
     returns)

@@ -1,25 +1,31 @@
 -- `commit::fresh_word` meets its contract. Assumes nothing.
-use mathlib.Core.Path.{_∙_}
+use mathlib.Core.Path.{_≡_, _∙_}
 use borrow.Author.Needs.{needs}
+use Rattle.clock.specs.declared.Packed.the-variants.{Word}
+use Rattle.clock.specs.Word.{fresh}
 use Rattle.clock.specs.Laws.{freshAt-word}
 use Rattle.commit.proofs.Words.{not-refused, the-word}
 use Rattle.commit.proofs.fresh_word.Statement.{statement}
 use Rattle.commit.proofs.fresh_word.Tie as tie
 
-fresh-requires : tie.Need-fresh-requires
-fresh-requires c κs = search needs
-
-enum-known-w : tie.Need-enum-known-w
-enum-known-w c = search needs
-
-enum-told : tie.Need-enum-told
-enum-told c = search needs
+-- the clock gives the word
+given : (c : tie.After-fresh) → c .fresh .result ≡ Word (fresh (c .before .args .time))
+given c = c .fresh .ensures ∙ freshAt-word _ (c .before .pre)
 
 returns : tie.Need-returns
-returns c = let e = c .before .before .fresh .ensures ∙ freshAt-word _ (c .before .before .before .pre) in absurd (not-refused _ e (c .before .match .keys2))
+returns c = absurd (not-refused _ (given (c .before .before)) (c .before .match .keys2))
 
 returns-2 : tie.Need-returns-2
-returns-2 c = the-word (c .before .before .before .fresh .ensures ∙ freshAt-word _ (c .before .before .before .before .pre)) (c .before .w .given .1)
+returns-2 c =
+    let at-word : tie.After-w = c .before in
+    the-word (given (at-word .before .before)) (at-word .w .given .1)
 
 pub fresh-word-spec : {M : Type 1} → statement M
-fresh-word-spec = tie.close (tie.spec fresh-requires enum-known-w enum-told returns returns-2)
+fresh-word-spec =
+    tie.close
+    (tie.spec
+    (search needs)
+    (search needs)
+    (search needs)
+    returns
+    returns-2)

@@ -1,53 +1,43 @@
 -- `commit::judge` meets its contract. Assumes nothing.
-use mathlib.Core.Path.{_≡_, sym, _∙_}
+use mathlib.Core.Path.{_≡_, _∙_, sym}
 use mathlib.Core.Bool.{cond}
-use borrow.Author.Needs.{needs}
 use borrow.Author.Tests.{eq-eqb, le-ltb, lt-ltb, ne-eqb}
+use borrow.Author.Needs.{needs}
 use lib.Dec.{ltb}
+use Rattle.rules.specs.Advance.{byWord, wordBlocked}
 use Rattle.rules.specs.declared.Verdict.the-variants.{Passes, Extends, Fails}
-use Rattle.commit.specs.Checks.{wordVerdict}
 use Rattle.commit.proofs.judge.Statement.{statement}
 use Rattle.commit.proofs.judge.Tie as tie
 
-write-time-requires : tie.Need-write-time-requires
-write-time-requires c κs = search needs
-
 returns : tie.Need-returns
-unfolding wordVerdict
-returns c = simp (
-  ne-eqb _ _ (c .if1 .taken),
-  ← c .before .write-time .ensures,
-)
+unfolding byWord
+returns c = simp (ne-eqb _ _ (c .if1 .taken), ← c .before .write-time .ensures)
 
 returns-2 : tie.Need-returns-2
-unfolding wordVerdict
-returns-2 c = simp (
-  c .if2 .taken,
-  eq-eqb _ _ (c .before .if1 .left),
-  ← c .before .before .write-time .ensures,
-)
+unfolding byWord
+returns-2 c =
+    let same-version : tie.Else1 = c .before in
+    simp (c .if2 .taken, eq-eqb _ _ (same-version .if1 .left), ← same-version .before .write-time .ensures)
 
-read-time-requires : tie.Need-read-time-requires
-read-time-requires c κs = search needs
-
-is-locked-requires : tie.Need-is-locked-requires
-is-locked-requires c κs = search needs
-
-is-blocked-requires : tie.Need-is-blocked-requires
-is-blocked-requires c κs = search needs
-
--- where the word is the one that was read and the seat does not write it: another's lock, and then the read time, decide
-unowned : (c : tie.After-is-blocked) → let a = c .before .before .before .before .before .before .args in
-    wordVerdict (a .wrote) (a .time) (a .word) (a .own) ≡ cond (c .is-blocked .result) (Fails 23) (cond (ltb (c .before .before .read-time .result) (a .time)) Extends Passes)
-unfolding wordVerdict
-unowned c = simp (
-  ← c .is-blocked .ensures,
-  ← c .before .is-locked .ensures,
-  ← c .before .before .read-time .ensures,
-  c .before .before .before .if2 .left,
-  eq-eqb _ _ (c .before .before .before .before .if1 .left),
-  ← c .before .before .before .before .before .write-time .ensures,
-)
+-- THE VERSION STANDS, and the record is not the seat's own: the lock decides, and then the read time
+unowned : (c : tie.After-is-blocked) →
+    let start : tie.Start = search in
+    let at-read : tie.After-read-time = search in
+    byWord (start .args .«kept_write») (start .args .time) (start .args .word) (start .args .own)
+    ≡ cond (c .is-blocked .result) (Fails wordBlocked) (cond (ltb (at-read .read-time .result) (start .args .time)) Extends Passes)
+unfolding byWord
+unowned c =
+    let at-locked : tie.After-is-locked = c .before in
+    let at-read : tie.After-read-time = at-locked .before in
+    let not-own : tie.Else2 = at-read .before in
+    let same-version : tie.Else1 = not-own .before in
+    simp (
+      ← c .is-blocked .ensures _ (at-locked .is-locked .ensures) (at-read .read-time .ensures),
+      ← at-read .read-time .ensures,
+      not-own .if2 .left,
+      eq-eqb _ _ (same-version .if1 .left),
+      ← same-version .before .write-time .ensures,
+    )
 
 returns-3 : tie.Need-returns-3
 returns-3 c = sym (unowned (c .before) ∙ rw (c .if3 .taken))
@@ -62,12 +52,12 @@ pub judge-spec : {M : Type 1} → statement M
 judge-spec =
     tie.close
     (tie.spec
-    write-time-requires
+    (search needs)
     returns
     returns-2
-    read-time-requires
-    is-locked-requires
-    is-blocked-requires
+    (search needs)
+    (search needs)
+    (search needs)
     returns-3
     returns-4
     returns-5)

@@ -2,42 +2,36 @@
 use mathlib.Core.Path.{refl}
 use borrow.Author.Needs.{needs}
 use Rattle.rules.specs.Advance.{letGo}
-use Rattle.commit.proofs.Entries.{held-is, held-small}
 use Rattle.seats.specs.Outcomes.{same}
+use Rattle.commit.proofs.Entries.{held-is, held-small}
 use Rattle.commit.proofs.let_go.Statement.{statement}
 use Rattle.commit.proofs.let_go.Tie as tie
 
-held-locks-requires : tie.Need-held-locks-requires
-held-locks-requires c κs = search needs
-
-row-of-requires : tie.Need-row-of-requires
-row-of-requires c κs = search needs
-
 release-requires : tie.Need-release-requires
-release-requires c κs = rw (c .before .before .before .held-locks .ensures) (held-small (c .before .before .before .before .before .before .pre .0) (c .before .before .before .before .before .before .pre .1))
-
-free-row-requires : tie.Need-free-row-requires
-free-row-requires c κs = search needs
-
-same-length : tie.Need-same-length
-same-length c = search needs
-
-same-length-2 : tie.Need-same-length-2
-same-length-2 c = search needs
+release-requires c κs =
+    let at-held : tie.After-held-locks = search in
+    let start : tie.Start = search (at-held) in
+    rw (at-held .held-locks .ensures) (held-small (start .pre))
 
 returns : tie.Need-returns
 unfolding letGo
-returns c = λ v a. simp (held-is (c .before .before .before .before .before .before .before .before .before .before .before .before .before .pre .0 .head), ← c .before .before .before .before .before .before .before .before .before .before .held-locks .ensures, ← c .before .before .before .before .before .before .before .row-of .ensures)
-    (same refl refl (c .before .before .before .before .before .before .release .ensures) (c .before .before .free-row .ensures))
+returns c = λ t a.
+    let at-freed : tie.After-free-row = search in
+    let at-released : tie.After-release = search (at-freed) in
+    let at-row : tie.After-row-of = at-released .before in
+    let at-held : tie.After-held-locks = search (at-row) in
+    let start : tie.Start = search (at-held) in
+    simp (held-is (start .pre .in-use .head), ← at-held .held-locks .ensures, ← at-row .row-of .ensures)
+    (same refl refl (at-released .release .ensures) (at-freed .free-row .ensures))
 
 pub let-go-spec : {M : Type 1} → statement M
 let-go-spec =
     tie.close
     (tie.spec
-    held-locks-requires
-    row-of-requires
+    (search needs)
+    (search needs)
     release-requires
-    free-row-requires
-    same-length
-    same-length-2
+    (search needs)
+    (search needs)
+    (search needs)
     returns)

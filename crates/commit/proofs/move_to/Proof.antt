@@ -6,18 +6,18 @@ use Rattle.seats.specs.Outcomes.{next}
 use Rattle.commit.proofs.move_to.Statement.{statement}
 use Rattle.commit.proofs.move_to.Tie as tie
 
-give-requires : tie.Need-give-requires
-give-requires c κs = search needs
-
-give-requires-2 : tie.Need-give-requires-2
-give-requires-2 c κs = search needs
-
-same-length : tie.Need-same-length
-same-length c = search needs
-
 returns : tie.Need-returns
 unfolding moved
-returns c = next _ _ _ (c .before .before .give2 .ensures) (c .before .before .before .before .before .before .give .ensures) refl
+returns c =
+    let at-position : tie.After-give2 = search in
+    let at-phase : tie.After-give = search (at-position) in
+    next _ _ _ (at-position .give2 .ensures) (at-phase .give .ensures) refl
 
 pub move-to-spec : {M : Type 1} → statement M
-move-to-spec = tie.close (tie.spec give-requires give-requires-2 same-length returns)
+move-to-spec =
+    tie.close
+    (tie.spec
+    (search needs)
+    (search needs)
+    (search needs)
+    returns)

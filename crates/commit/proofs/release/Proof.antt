@@ -16,39 +16,16 @@ Inv-loop words₀ row n i₀ words i = (i ≤ n) × (length words ≡ length wor
 abbrev μ-loop : tie.MeasureT-loop
 μ-loop words₀ row n i₀ words i = n - i
 
-loop-holds : tie.Need-loop-holds Inv-loop μ-loop
-loop-holds c = (omega arith, refl, released-none _ _)
-
-mul-at : tie.Need-mul-at Inv-loop μ-loop
-mul-at c = omega arith
-
-add-at : tie.Need-add-at Inv-loop μ-loop
-add-at c = omega arith
-
-at-requires : tie.Need-at-requires Inv-loop μ-loop
-at-requires c κs = search needs
-
-at-requires-2 : tie.Need-at-requires-2 Inv-loop μ-loop
-at-requires-2 c κs = search needs
-
-unlock-requires : tie.Need-unlock-requires Inv-loop μ-loop
-unlock-requires c κs = search needs
-
-store-requires : tie.Need-store-requires Inv-loop μ-loop
-store-requires c κs = search needs
-
-add-i : tie.Need-add-i Inv-loop μ-loop
-add-i c = omega arith
-
-loop-less : tie.Need-loop-less Inv-loop μ-loop
-loop-less c = omega arith
-
 loop-again : tie.Need-loop-again Inv-loop μ-loop
-loop-again c = let i = c .before .before .before .before .before .before .before .before .before .loop .inv in
-    (omega arith, c .before .before .store .kept .0 ∙ i .1, released-more _ _ _ (i .2) (c .before .before .before .before .before .before .before .at .ensures) (c .before .before .before .before .before .at2 .ensures) (c .before .before .before .unlock .ensures) (c .before .before .store .ensures))
-
-same-length : tie.Need-same-length Inv-loop μ-loop
-same-length c = c .before .loop .inv .1
+loop-again c =
+    let at-store : tie.After-store Inv-loop μ-loop = search in
+    let at-unlock : tie.After-unlock Inv-loop μ-loop = at-store .before in
+    let at-word : tie.After-at2 Inv-loop μ-loop = search (at-unlock) in
+    let at-item : tie.After-at Inv-loop μ-loop = search (at-word) in
+    let at-loop : tie.At-loop Inv-loop μ-loop = search (at-item) in
+    let so-far = at-loop .loop .inv in
+    let more = released-more _ _ _ (so-far .2) (at-item .at .ensures) (at-word .at2 .ensures) (at-unlock .unlock .ensures) (at-store .store .ensures) in
+    (omega arith, at-store .store .kept .0 ∙ so-far .1, more)
 
 returns : tie.Need-returns Inv-loop μ-loop
 returns c = at-end (released _ _) _ _ (c .before .loop .inv .2) (c .before .loop .inv .0) (c .loop-test .left)
@@ -59,15 +36,15 @@ release-spec =
     (tie.spec
     Inv-loop
     μ-loop
-    loop-holds
-    mul-at
-    add-at
-    at-requires
-    at-requires-2
-    unlock-requires
-    store-requires
-    add-i
-    loop-less
+    (λ c. (omega arith, refl, released-none _ _))
+    (λ c. omega arith)
+    (λ c. omega arith)
+    (search needs)
+    (search needs)
+    (search needs)
+    (search needs)
+    (λ c. omega arith)
+    (λ c. omega arith)
     loop-again
-    same-length
+    (λ c. c .before .loop .inv .1)
     returns)

@@ -6,15 +6,17 @@ use Rattle.seats.specs.Outcomes.{same}
 use Rattle.commit.proofs.seal_step.Statement.{statement}
 use Rattle.commit.proofs.seal_step.Tie as tie
 
-move-to-requires : tie.Need-move-to-requires
-move-to-requires c κs = search needs
-
-same-length : tie.Need-same-length
-same-length c = search needs
-
 returns : tie.Need-returns
 unfolding sealStep
-returns c = λ v w. simp (← c .before .before .before .before .before .pre) (same refl refl refl (c .before .before .move-to .ensures))
+returns c = λ t.
+    let at-moved : tie.After-move-to = search in
+    let start : tie.Start = search (at-moved) in
+    simp (← start .pre) (same refl refl refl (at-moved .move-to .ensures))
 
 pub seal-step-spec : {M : Type 1} → statement M
-seal-step-spec = tie.close (tie.spec move-to-requires same-length returns)
+seal-step-spec =
+    tie.close
+    (tie.spec
+    (search needs)
+    (search needs)
+    returns)

@@ -1,68 +1,58 @@
 -- `commit::time_step` meets its contract. Assumes nothing.
-use mathlib.Core.Path.{refl}
-use borrow.Author.Needs.{needs}
+use mathlib.Core.Path.{_≡_, refl}
 use borrow.Author.Tests.{le-ltb, lt-ltb}
-use Rattle.rules.specs.Advance.{timeStep}
-use Rattle.commit.proofs.Entries.{commit-is}
+use borrow.Author.Needs.{needs}
+use denote.Ref.{now}
+use Rattle.rules.specs.Layout.{row}
+use Rattle.rules.specs.Advance.{commitTime, timeStep}
 use Rattle.seats.specs.Outcomes.{next, same}
+use Rattle.commit.proofs.Entries.{commit-is}
 use Rattle.commit.proofs.time_step.Statement.{statement}
 use Rattle.commit.proofs.time_step.Tie as tie
 
-row-of-requires : tie.Need-row-of-requires
-row-of-requires c κs = search needs
-
-seen-time-requires : tie.Need-seen-time-requires
-seen-time-requires c κs = search needs
-
-due-time-requires : tie.Need-due-time-requires
-due-time-requires c κs = search needs
-
-top-requires : tie.Need-top-requires
-top-requires c κs = search needs
-
-abort-requires : tie.Need-abort-requires
-abort-requires c κs = search needs
-
-same-length : tie.Need-same-length
-same-length c = search needs
-
-same-length-2 : tie.Need-same-length-2
-same-length-2 c = search needs
+-- the time is the rules' commit time
+time-is : (c : tie.After-due-time) →
+    let start : tie.Start = search in
+    commitTime (now (start .args .words)) (row (now (start .args .seats)) (start .args .seat)) ≡ c .due-time .result
+time-is c =
+    let at-seen : tie.After-seen-time = c .before in
+    let at-row : tie.After-row-of = search (at-seen) in
+    let start : tie.Start = search (at-row) in
+    let head = start .pre .in-use .head in
+    commit-is (at-row .row-of .ensures) _ (head .reads-is) (head .writes-is) (at-seen .seen-time .ensures) (c .due-time .ensures)
 
 returns : tie.Need-returns
 unfolding timeStep
-returns c = λ v. simp (commit-is (c .before .before .before .before .before .before .before .before .before .before .before .before .row-of .ensures) _ (c .before .before .before .before .before .before .before .before .before .before .before .before .before .before .before .before .pre .0 .head .reads-is) (c .before .before .before .before .before .before .before .before .before .before .before .before .before .before .before .before .pre .0 .head .writes-is) (c .before .before .before .before .before .before .before .before .before .before .seen-time .ensures) (c .before .before .before .before .before .before .before .before .before .due-time .ensures), ← c .before .before .before .before .before .before .before .before .top .ensures, lt-ltb _ _ (c .before .before .before .before .before .before .before .if1 .taken)) (c .before .before .before .before .abort .ensures v)
-
-move-to-requires : tie.Need-move-to-requires
-move-to-requires c κs = search needs
-
-give-requires : tie.Need-give-requires
-give-requires c κs = search needs
-
-same-length-3 : tie.Need-same-length-3
-same-length-3 c = search needs
-
-same-length-4 : tie.Need-same-length-4
-same-length-4 c = search needs
+returns c = λ t.
+    let at-abort : tie.After-abort = search in
+    let above : tie.Then1 = search (at-abort) in
+    let at-top : tie.After-top = above .before in
+    simp (time-is (at-top .before), ← at-top .top .ensures, lt-ltb _ _ (above .if1 .taken)) (at-abort .abort .ensures t)
 
 returns-2 : tie.Need-returns-2
 unfolding timeStep
-returns-2 c = λ v. simp (commit-is (c .before .before .before .before .before .before .before .before .before .before .before .before .before .row-of .ensures) _ (c .before .before .before .before .before .before .before .before .before .before .before .before .before .before .before .before .before .pre .0 .head .reads-is) (c .before .before .before .before .before .before .before .before .before .before .before .before .before .before .before .before .before .pre .0 .head .writes-is) (c .before .before .before .before .before .before .before .before .before .before .before .seen-time .ensures) (c .before .before .before .before .before .before .before .before .before .before .due-time .ensures), ← c .before .before .before .before .before .before .before .before .before .top .ensures, le-ltb _ _ (c .before .before .before .before .before .before .before .before .if1 .left)) (same refl refl refl (next _ _ _ (c .before .before .give .ensures) (c .before .before .before .before .before .before .move-to .ensures) refl))
+returns-2 c = λ t.
+    let at-time : tie.After-give = search in
+    let at-moved : tie.After-move-to = search (at-time) in
+    let below : tie.Else1 = search (at-moved) in
+    let at-top : tie.After-top = below .before in
+    simp (time-is (at-top .before), ← at-top .top .ensures, le-ltb _ _ (below .if1 .left))
+    (same refl refl refl (next _ _ _ (at-time .give .ensures) (at-moved .move-to .ensures) refl))
 
 pub time-step-spec : {M : Type 1} → statement M
 time-step-spec =
     tie.close
     (tie.spec
-    row-of-requires
-    seen-time-requires
-    due-time-requires
-    top-requires
-    abort-requires
-    same-length
-    same-length-2
+    (search needs)
+    (search needs)
+    (search needs)
+    (search needs)
+    (search needs)
+    (search needs)
+    (search needs)
     returns
-    move-to-requires
-    give-requires
-    same-length-3
-    same-length-4
+    (search needs)
+    (search needs)
+    (search needs)
+    (search needs)
     returns-2)
