@@ -6,8 +6,7 @@ use std::array;
 use crate::call::Call;
 use crate::clock::{Widths, Word};
 use crate::crowd::sound_plan;
-use crate::flat::{self, Flat};
-use crate::monitor::Monitor;
+use crate::flat::Flat;
 use crate::plan::{OWNERS, Plan, SEATS};
 use crate::random::Random;
 use crate::row::{READS, ReadEntry, Row, WRITES, WriteEntry, phase};
@@ -25,7 +24,7 @@ pub fn tables(random: &mut Random) -> Flat {
     let free = random.below(12);
     let rows = Box::new(array::from_fn(|_| row(random, &records, free)));
     let plan = if random.once_in(2) { plan(random) } else { tight_plan(random, &rows) };
-    flat::unload(&Monitor::of(Tables { widths: Widths::REAL, records, plan, rows }))
+    Flat::from(&Tables { widths: Widths::REAL, records, plan, rows })
 }
 
 /// A call that mostly names a row in use and its owner.

@@ -21,6 +21,10 @@ pub struct Tables {
 }
 
 impl Tables {
+    pub fn values(&self) -> Vec<u64> {
+        self.records.iter().map(|record| record.value).collect()
+    }
+
     pub(crate) fn setup(&mut self, start: u64, plan: Plan) -> Result<Answer, Refusal> {
         let word = self.widths.at(start)?;
         if !plan.is_sound() {

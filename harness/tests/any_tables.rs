@@ -5,7 +5,7 @@ use std::collections::BTreeMap;
 
 use second::answer::Answer;
 use second::call::Call;
-use second::flat;
+use second::monitor::Monitor;
 use second::odd;
 use second::random::{Random, each_seed};
 use second::row::Row;
@@ -16,8 +16,7 @@ const CALLS: usize = 12;
 type Tally = BTreeMap<String, u64>;
 
 fn run_tables(random: &mut Random, tally: &mut Tally) {
-    let lent = odd::tables(random);
-    let mut monitor = flat::load(&lent.values, &lent.words, &lent.seats);
+    let mut monitor = Monitor::load(&odd::tables(random));
     for _ in 0..CALLS {
         let before = monitor.tables().unwrap().clone();
         let call = odd::call(random, &before);

@@ -25,14 +25,14 @@ struct Pair {
 
 impl Pair {
     fn new(tables: Flat) -> Pair {
-        let second = flat::load(&tables.values, &tables.words, &tables.seats);
+        let second = Monitor::load(&tables);
         Pair { engine: tables, second }
     }
 
     fn call(&mut self, call: &Call, tally: &mut Tally) -> Answer {
         let answer = engine::answer(&mut self.engine, call);
         assert_eq!(answer, self.second.answer(call), "answers differ: {call:?}");
-        assert!(self.engine == flat::unload(&self.second), "tables differ after {call:?}");
+        assert!(self.engine == self.second.unload(), "tables differ after {call:?}");
         tally.count(answer);
         answer
     }
@@ -150,7 +150,7 @@ fn tables_with(row: Row) -> Flat {
     let mut monitor = Monitor::new(Widths::REAL, &[1, 2, 3]);
     let plan = Plan { shares: [2; OWNERS], limits: [SEATS as u64; OWNERS] };
     assert_eq!(monitor.setup(5, plan), Answer::Ready(3));
-    let mut tables = flat::unload(&monitor);
+    let mut tables = monitor.unload();
     flat::put_row(&mut tables.seats, 5, &row);
     tables
 }
