@@ -83,8 +83,8 @@ fn load_read(numbers: &[u64]) -> ReadEntry {
     ReadEntry {
         record: numbers[0],
         value: numbers[1],
-        write_time: numbers[2],
-        read_time: numbers[3],
+        kept_write: numbers[2],
+        kept_read: numbers[3],
     }
 }
 
@@ -95,7 +95,7 @@ fn load_write(numbers: &[u64]) -> WriteEntry {
 fn unload_row(row: &Row, seats: &mut Vec<u64>) {
     seats.extend([row.phase, row.owner, row.position, row.reads, row.writes, row.time]);
     for entry in &row.read_entries {
-        seats.extend([entry.record, entry.value, entry.write_time, entry.read_time]);
+        seats.extend([entry.record, entry.value, entry.kept_write, entry.kept_read]);
     }
     for entry in &row.write_entries {
         seats.extend([entry.record, entry.value]);

@@ -196,8 +196,8 @@ fn a_record_named_twice() {
 
 #[test]
 fn a_kept_time_beyond_all_times_aborts() {
-    let write_time = HEAD + 2;
-    let mut monitor = lent(&with(row([1, 0, 1, 0, 0]), write_time, FAR));
+    let kept_write = HEAD + 2;
+    let mut monitor = lent(&with(row([1, 0, 1, 0, 0]), kept_write, FAR));
     assert_eq!(monitor.advance(0, 2), Answer::Aborted(24));
 }
 
