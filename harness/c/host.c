@@ -5,15 +5,15 @@
 
 #include "ponsevran.h"
 
-static const char *const WORDS[] = {"ready",  "seat",   "value", "noted",   "locked",  "timed",  "checked",
-                                    "sealed", "stored", "done",  "dropped", "refused", "aborted"};
+static const char *const SPELLINGS[] = {"ready",  "seat",   "value", "noted",   "locked",  "timed",  "checked",
+                                        "sealed", "stored", "done",  "dropped", "refused", "aborted"};
 
 static uint64_t values[2], words[2], seats[PONSEVRAN_SEATS];
 static uint64_t plan[PONSEVRAN_PLAN];
 static unsigned calls;
 
-static void say(uint64_t word, uint64_t number) {
-    printf("%u %s %" PRIu64 "\n", ++calls, WORDS[word], number);
+static void say(uint64_t spelling, uint64_t number) {
+    printf("%u %s %" PRIu64 "\n", ++calls, SPELLINGS[spelling], number);
 }
 
 #define TABLES values, 2, words, 2, seats, PONSEVRAN_SEATS
@@ -21,13 +21,13 @@ static void say(uint64_t word, uint64_t number) {
 static void advance(uint64_t owner, uint64_t seat, unsigned times) {
     uint64_t number;
     while (times-- > 0) {
-        uint64_t word = ponsevran_advance(TABLES, owner, seat, &number);
-        say(word, number);
+        uint64_t spelling = ponsevran_advance(TABLES, owner, seat, &number);
+        say(spelling, number);
     }
 }
 
-/* Whether the call gives this word, and this number in `number`. */
-#define GIVES(call, word, carried) ((call) == (word) && number == (carried))
+/* Whether the call gives this spelling, and this number in `number`. */
+#define GIVES(call, spelling, carried) ((call) == (spelling) && number == (carried))
 
 /* Abandons seat 0 with a lock held: the record is unlocked again with its times, its value stays, and every row is zero. */
 static int abandons(void) {
@@ -45,19 +45,19 @@ static int abandons(void) {
 }
 
 int main(void) {
-    uint64_t number, word;
+    uint64_t number, spelling;
     plan[0] = plan[1] = 1;
     plan[16] = plan[17] = 2;
-    word = ponsevran_setup(TABLES, 2, plan, &number);
-    say(word, number);
-    word = ponsevran_open(TABLES, 0, &number);
-    say(word, number);
-    word = ponsevran_open(TABLES, 1, &number);
-    say(word, number);
-    word = ponsevran_read(TABLES, 0, 0, 0, &number);
-    say(word, number);
-    word = ponsevran_write(TABLES, 1, 1, 0, 7, &number);
-    say(word, number);
+    spelling = ponsevran_setup(TABLES, 2, plan, &number);
+    say(spelling, number);
+    spelling = ponsevran_open(TABLES, 0, &number);
+    say(spelling, number);
+    spelling = ponsevran_open(TABLES, 1, &number);
+    say(spelling, number);
+    spelling = ponsevran_read(TABLES, 0, 0, 0, &number);
+    say(spelling, number);
+    spelling = ponsevran_write(TABLES, 1, 1, 0, 7, &number);
+    say(spelling, number);
     advance(1, 1, 5);
     advance(0, 0, 4);
     printf("end %u\n", calls);

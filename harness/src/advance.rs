@@ -42,7 +42,7 @@ impl Tables {
     }
 
     fn take_time(&mut self, seat: usize) -> Answer {
-        let time = self.commit_time(&self.rows[seat]);
+        let time = self.time_of(&self.rows[seat]);
         if time > self.widths.greatest_time() {
             return self.abort(seat, Abort::EndOfTime);
         }
@@ -53,9 +53,9 @@ impl Tables {
         Answer::Timed(time)
     }
 
-    /// Not before any version that was read, and after every read of a version to be replaced.
-    fn commit_time(&self, row: &Row) -> u64 {
-        let read = row.reads_in_use().iter().map(|entry| entry.write_time);
+    /// The commit time: not before any version that was read, and after every read of a version to be replaced.
+    fn time_of(&self, row: &Row) -> u64 {
+        let read = row.reads_in_use().iter().map(|entry| entry.kept_write);
         let replaced =
             row.writes_in_use().iter().map(|entry| self.word(entry.record).read_time() + 1);
         read.chain(replaced).max().unwrap_or(0)
@@ -110,10 +110,10 @@ impl Tables {
 
 fn check(row: &Row, entry: &ReadEntry, word: Word) -> Check {
     // The version was already good at the commit time when it was read.
-    if entry.read_time >= row.time {
+    if entry.kept_read >= row.time {
         return Check::Passes;
     }
-    if word.write_time() != entry.write_time {
+    if word.write_time() != entry.kept_write {
         return Check::Fails(Abort::Overwritten);
     }
     // The lock on a record that the seat writes is its own.

@@ -20,7 +20,7 @@ pub enum Answer {
 }
 
 impl Answer {
-    pub fn word(self) -> &'static str {
+    pub fn spelling(self) -> &'static str {
         self.parts().0
     }
 
@@ -53,8 +53,8 @@ impl Answer {
 
 impl fmt::Display for Answer {
     fn fmt(&self, f: &mut fmt::Formatter<'_>) -> fmt::Result {
-        let (word, number) = self.parts();
-        write!(f, "{word} {number}")
+        let (spelling, number) = self.parts();
+        write!(f, "{spelling} {number}")
     }
 }
 

@@ -39,13 +39,13 @@ macro_rules! lend {
     ($call:ident, $tables:expr $(, $field:expr)*) => {{
         let Flat { values, words, seats } = $tables;
         let mut number = 0;
-        let word = unsafe {
+        let spelling = unsafe {
             $call(
                 values.as_mut_ptr(), values.len(), words.as_mut_ptr(), words.len(),
                 seats.as_mut_ptr(), seats.len(), $($field,)* &mut number,
             )
         };
-        told(word, number)
+        told(spelling, number)
     }};
 }
 
@@ -73,9 +73,9 @@ fn flat_plan(plan: &Plan) -> [u64; 2 * OWNERS] {
     numbers
 }
 
-/// The answer of a word's number, as the boundary numbers them, and the number that it carries.
-fn told(word: u64, number: u64) -> Answer {
-    const WORDS: [fn(u64) -> Answer; 13] = [
+/// The answer of a spelling's number, as the boundary numbers them, and the number that it carries.
+fn told(spelling: u64, number: u64) -> Answer {
+    const ANSWERS: [fn(u64) -> Answer; 13] = [
         Answer::Ready,
         Answer::Seat,
         Answer::Value,
@@ -90,5 +90,5 @@ fn told(word: u64, number: u64) -> Answer {
         Answer::Refused,
         Answer::Aborted,
     ];
-    WORDS[word as usize](number)
+    ANSWERS[spelling as usize](number)
 }

@@ -1,13 +1,13 @@
-//! The three lent tables as flat numbers: loaded into a monitor and unloaded bit for bit.
+//! The three lent tables as flat numbers: taken into structured tables and written back bit for bit.
 
 use std::array;
 
 use crate::clock::Widths;
-use crate::monitor::{Lent, Monitor, count_fits};
 use crate::plan::{OWNERS, Plan, SEATS};
 use crate::row::{READS, ReadEntry, Row, WRITES, WriteEntry};
 use crate::tables::{Record, Tables};
 
+const MOST_RECORDS: usize = 1024;
 const HEAD: usize = 6;
 const READ_ENTRY: usize = 4;
 const WRITE_ENTRY: usize = 2;
@@ -22,32 +22,35 @@ pub struct Flat {
     pub seats: Vec<u64>,
 }
 
-/// The monitor that these tables are lent to, with words of the real widths. Tables of wrong
-/// lengths are kept as they are, for a monitor that refuses every call.
-pub fn load(values: &[u64], words: &[u64], seats: &[u64]) -> Monitor {
-    let records_fit = count_fits(values.len()) && values.len() == words.len();
-    if !records_fit || seats.len() != SEAT_TABLE {
-        let (values, words, seats) = (values.to_vec(), words.to_vec(), seats.to_vec());
-        return Monitor { lent: Lent::Unfit(Flat { values, words, seats }) };
+impl Flat {
+    /// The structured tables, with words of the real widths; None where a length is wrong.
+    pub fn tables(&self) -> Option<Tables> {
+        let records_fit = count_fits(self.values.len()) && self.values.len() == self.words.len();
+        if !records_fit || self.seats.len() != SEAT_TABLE {
+            return None;
+        }
+        let widths = Widths::REAL;
+        let record = |(&value, &word): (&u64, &u64)| Record { value, word: widths.unpack(word) };
+        let records = self.values.iter().zip(&self.words).map(record).collect();
+        let (plan, rows) = self.seats.split_at(2 * OWNERS);
+        Some(Tables { widths, records, plan: load_plan(plan), rows: load_rows(rows) })
     }
-    let widths = Widths::REAL;
-    let record = |(&value, &word): (&u64, &u64)| Record { value, word: widths.unpack(word) };
-    let records = values.iter().zip(words).map(record).collect();
-    let (plan, rows) = seats.split_at(2 * OWNERS);
-    Monitor::of(Tables { widths, records, plan: load_plan(plan), rows: load_rows(rows) })
 }
 
-pub fn unload(monitor: &Monitor) -> Flat {
-    let tables = match &monitor.lent {
-        Lent::Fit(tables) => tables,
-        Lent::Unfit(flat) => return flat.clone(),
-    };
-    let words = tables.records.iter().map(|record| tables.widths.pack(record.word));
-    let mut seats = Vec::with_capacity(SEAT_TABLE);
-    seats.extend(tables.plan.shares);
-    seats.extend(tables.plan.limits);
-    tables.rows.iter().for_each(|row| unload_row(row, &mut seats));
-    Flat { values: monitor.values(), words: words.collect(), seats }
+impl From<&Tables> for Flat {
+    fn from(tables: &Tables) -> Flat {
+        let words = tables.records.iter().map(|record| tables.widths.pack(record.word));
+        let mut seats = Vec::with_capacity(SEAT_TABLE);
+        seats.extend(tables.plan.shares);
+        seats.extend(tables.plan.limits);
+        tables.rows.iter().for_each(|row| unload_row(row, &mut seats));
+        Flat { values: tables.values(), words: words.collect(), seats }
+    }
+}
+
+/// Whether tables may have so many records.
+pub(crate) fn count_fits(count: usize) -> bool {
+    (1..=MOST_RECORDS).contains(&count)
 }
 
 fn load_plan(numbers: &[u64]) -> Plan {
@@ -80,8 +83,8 @@ fn load_read(numbers: &[u64]) -> ReadEntry {
     ReadEntry {
         record: numbers[0],
         value: numbers[1],
-        write_time: numbers[2],
-        read_time: numbers[3],
+        kept_write: numbers[2],
+        kept_read: numbers[3],
     }
 }
 
@@ -92,7 +95,7 @@ fn load_write(numbers: &[u64]) -> WriteEntry {
 fn unload_row(row: &Row, seats: &mut Vec<u64>) {
     seats.extend([row.phase, row.owner, row.position, row.reads, row.writes, row.time]);
     for entry in &row.read_entries {
-        seats.extend([entry.record, entry.value, entry.write_time, entry.read_time]);
+        seats.extend([entry.record, entry.value, entry.kept_write, entry.kept_read]);
     }
     for entry in &row.write_entries {
         seats.extend([entry.record, entry.value]);

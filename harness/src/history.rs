@@ -24,7 +24,7 @@ struct Transaction {
     reads: Vec<(u64, u64)>,
     writes: BTreeMap<u64, u64>,
     advances: usize,
-    timed: Option<u64>,
+    time: Option<u64>,
     sealed: bool,
 }
 
@@ -179,7 +179,7 @@ impl Judge {
         let transaction = self.transaction(seat)?;
         transaction.advance(answer)?;
         match answer {
-            Answer::Timed(time) => transaction.timed = Some(time),
+            Answer::Timed(time) => transaction.time = Some(time),
             Answer::Sealed(time) => {
                 transaction.sealed = true;
                 let sealed = transaction.seal(time);
@@ -299,7 +299,7 @@ impl Transaction {
             | (Step::Check(record), Answer::Checked(told))
             | (Step::Store(record), Answer::Stored(told)) => record == told,
             (Step::Seal, Answer::Sealed(time)) | (Step::End, Answer::Done(time)) => {
-                self.timed == Some(time)
+                self.time == Some(time)
             }
             (Step::Time, Answer::Timed(_)) => true,
             (Step::Lock(_), Answer::Aborted(abort)) => abort == Abort::LockMet as u64,
@@ -313,16 +313,16 @@ impl Transaction {
 
     /// What is wrong with an answer that stands on the wrong side of Sealed.
     fn disorder(&self, answer: Answer) -> Option<String> {
-        let word = answer.word();
+        let spelling = answer.spelling();
         match answer {
             Answer::Sealed(_) if self.sealed => Some("sealed twice".into()),
             Answer::Locked(_) | Answer::Timed(_) | Answer::Checked(_) | Answer::Aborted(_)
                 if self.sealed =>
             {
-                Some(format!("{word} after sealed"))
+                Some(format!("{spelling} after sealed"))
             }
             Answer::Stored(_) | Answer::Done(_) if !self.sealed => {
-                Some(format!("{word} before sealed"))
+                Some(format!("{spelling} before sealed"))
             }
             _ => None,
         }

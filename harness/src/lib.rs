@@ -6,6 +6,7 @@
 
 mod advance;
 pub mod answer;
+pub mod answer_counts;
 pub mod call;
 pub mod clock;
 pub mod crowd;
@@ -27,6 +28,5 @@ pub mod replay;
 pub mod row;
 pub mod stored;
 pub mod tables;
-pub mod tally;
 pub mod tape;
 pub mod text;

@@ -94,9 +94,9 @@ impl Recorder {
             Answer::Ready(count) => self.write_times = (0..count).map(write_time).collect(),
             Answer::Stored(record) => self.write_times[record as usize] = write_time(record),
             Answer::Checked(record) => {
-                let (kept, now) = (&mut self.write_times[record as usize], write_time(record));
-                self.moved += u64::from(*kept != now);
-                *kept = now;
+                let (last, now) = (&mut self.write_times[record as usize], write_time(record));
+                self.moved += u64::from(*last != now);
+                *last = now;
             }
             _ => {}
         }

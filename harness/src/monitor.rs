@@ -3,21 +3,19 @@
 use crate::answer::{Answer, Refusal};
 use crate::call::Call;
 use crate::clock::Widths;
-use crate::flat::{Flat, SEAT_TABLE};
+use crate::flat::{Flat, SEAT_TABLE, count_fits};
 use crate::plan::{Plan, SEATS};
 use crate::row::Row;
 use crate::tables::{Record, Tables};
 
-pub const MOST_RECORDS: usize = 1024;
-
 #[derive(Clone, Debug, PartialEq, Eq)]
 pub struct Monitor {
-    pub(crate) lent: Lent,
+    lent: Lent,
 }
 
 /// No call changes a length, so refusal 1 is settled when the tables are lent.
 #[derive(Clone, Debug, PartialEq, Eq)]
-pub(crate) enum Lent {
+enum Lent {
     Fit(Box<Tables>),
     Unfit(Flat),
 }
@@ -32,12 +30,23 @@ impl Monitor {
         let word = widths.unpack(0);
         let records = values.iter().map(|&value| Record { value, word }).collect();
         let rows = Box::new([Row::default(); SEATS]);
-        Monitor::of(Tables { widths, records, plan: Plan::default(), rows })
+        let tables = Tables { widths, records, plan: Plan::default(), rows };
+        Monitor { lent: Lent::Fit(Box::new(tables)) }
     }
 
-    /// The monitor of structured tables; they must hold 1 to 1024 records.
-    pub(crate) fn of(tables: Tables) -> Monitor {
-        Monitor { lent: Lent::Fit(Box::new(tables)) }
+    /// The monitor that these tables are lent to. Tables of wrong lengths are kept as they are, for
+    /// a monitor that refuses every call.
+    pub fn load(flat: &Flat) -> Monitor {
+        let unfit = || Lent::Unfit(flat.clone());
+        Monitor { lent: flat.tables().map_or_else(unfit, |tables| Lent::Fit(Box::new(tables))) }
+    }
+
+    /// The tables as they were lent, after the calls so far.
+    pub fn unload(&self) -> Flat {
+        match &self.lent {
+            Lent::Fit(tables) => Flat::from(&**tables),
+            Lent::Unfit(flat) => flat.clone(),
+        }
     }
 
     /// The tables, where their lengths are right.
@@ -50,7 +59,7 @@ impl Monitor {
 
     pub fn values(&self) -> Vec<u64> {
         match &self.lent {
-            Lent::Fit(tables) => tables.records.iter().map(|record| record.value).collect(),
+            Lent::Fit(tables) => tables.values(),
             Lent::Unfit(flat) => flat.values.clone(),
         }
     }
@@ -96,8 +105,4 @@ impl Monitor {
             Lent::Unfit(_) => Refusal::Lengths.into(),
         }
     }
-}
-
-pub(crate) fn count_fits(count: usize) -> bool {
-    (1..=MOST_RECORDS).contains(&count)
 }

@@ -6,8 +6,7 @@ use std::array;
 use crate::call::Call;
 use crate::clock::{Widths, Word};
 use crate::crowd::sound_plan;
-use crate::flat::{self, Flat};
-use crate::monitor::Monitor;
+use crate::flat::Flat;
 use crate::plan::{OWNERS, Plan, SEATS};
 use crate::random::Random;
 use crate::row::{READS, ReadEntry, Row, WRITES, WriteEntry, phase};
@@ -25,17 +24,17 @@ pub fn tables(random: &mut Random) -> Flat {
     let free = random.below(12);
     let rows = Box::new(array::from_fn(|_| row(random, &records, free)));
     let plan = if random.once_in(2) { plan(random) } else { tight_plan(random, &rows) };
-    flat::unload(&Monitor::of(Tables { widths: Widths::REAL, records, plan, rows }))
+    Flat::from(&Tables { widths: Widths::REAL, records, plan, rows })
 }
 
 /// A call that mostly names a row in use and its owner.
 pub fn call(random: &mut Random, tables: &Tables) -> Call {
     let in_use: Vec<usize> = (0..SEATS).filter(|&seat| !tables.rows[seat].is_free()).collect();
-    let index = random.pick(&in_use).unwrap_or(0);
-    let owner = nearly(random, tables.rows[index].owner);
-    let seat = nearly(random, index as u64);
-    let usual = random.below(tables.records.len() as u64);
-    let (record, value) = (nearly(random, usual), random.number());
+    let usual_seat = random.pick(&in_use).unwrap_or(0);
+    let owner = nearly(random, tables.rows[usual_seat].owner);
+    let seat = nearly(random, usual_seat as u64);
+    let usual_record = random.below(tables.records.len() as u64);
+    let (record, value) = (nearly(random, usual_record), random.number());
     match random.weighted(&[1, 8, 12, 12, 48, 4]) {
         0 => setup(random),
         1 => Call::Open { owner },
@@ -137,16 +136,16 @@ fn read_entry(random: &mut Random, records: &[Record]) -> ReadEntry {
     let Record { value, word } = records[index as usize];
     let record = if random.once_in(8) { nearly(random, index) } else { index };
     if random.once_in(2) {
-        let (write_time, read_time) = (word.write_time(), word.read_time());
-        return ReadEntry { record, value, write_time, read_time };
+        let (kept_write, kept_read) = (word.write_time(), word.read_time());
+        return ReadEntry { record, value, kept_write, kept_read };
     }
-    let write_time = random.below(8);
-    let read_time = write_time + random.below(6);
+    let kept_write = random.below(8);
+    let kept_read = kept_write + random.below(6);
     ReadEntry {
         record,
         value: random.number(),
-        write_time: nearly(random, write_time),
-        read_time: nearly(random, read_time),
+        kept_write: nearly(random, kept_write),
+        kept_read: nearly(random, kept_read),
     }
 }
 
@@ -157,8 +156,8 @@ fn write_entry(random: &mut Random, records: &[Record]) -> WriteEntry {
 
 /// The least time that is sound for the row, and not less than the row's own.
 fn latest_read(row: &Row) -> u64 {
-    let kept = row.reads_in_use().iter().map(|entry| entry.write_time);
-    kept.fold(row.time, u64::max)
+    let kept_writes = row.reads_in_use().iter().map(|entry| entry.kept_write);
+    kept_writes.fold(row.time, u64::max)
 }
 
 fn clear_unused(row: &mut Row) {

@@ -17,7 +17,7 @@ use crate::{program, stored};
 /// Longer than any program may take to end.
 pub const PATIENCE: Duration = Duration::from_secs(30);
 
-/// The longest line: two numbers of 20 digits, a word of 7 letters, two blanks and a line's end.
+/// The longest line: two numbers of 20 digits, a spelling of 7 letters, two blanks and a line's end.
 const LONGEST_LINE: usize = 20 + 7 + 20 + 3;
 /// The shortest call of a tape: its length, its kind and an owner.
 const SHORTEST_CALL: usize = 2 + 1 + 1;

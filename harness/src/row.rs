@@ -21,8 +21,8 @@ pub mod phase {
 pub struct ReadEntry {
     pub record: u64,
     pub value: u64,
-    pub write_time: u64,
-    pub read_time: u64,
+    pub kept_write: u64,
+    pub kept_read: u64,
 }
 
 #[derive(Clone, Copy, Debug, Default, PartialEq, Eq)]
@@ -71,7 +71,7 @@ impl Row {
         self.writes_in_use().iter().find(|entry| entry.record == record)
     }
 
-    pub fn kept_read(&self, record: u64) -> Option<&ReadEntry> {
+    pub fn read_entry(&self, record: u64) -> Option<&ReadEntry> {
         self.reads_in_use().iter().find(|entry| entry.record == record)
     }
 
@@ -134,7 +134,7 @@ impl Row {
             return false;
         }
         self.time > greatest_time
-            || self.reads_in_use().iter().any(|entry| self.time < entry.write_time)
+            || self.reads_in_use().iter().any(|entry| self.time < entry.kept_write)
     }
 }
 

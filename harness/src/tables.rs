@@ -21,6 +21,10 @@ pub struct Tables {
 }
 
 impl Tables {
+    pub fn values(&self) -> Vec<u64> {
+        self.records.iter().map(|record| record.value).collect()
+    }
+
     pub(crate) fn setup(&mut self, start: u64, plan: Plan) -> Result<Answer, Refusal> {
         let word = self.widths.at(start)?;
         if !plan.is_sound() {
@@ -60,7 +64,7 @@ impl Tables {
         if let Some(entry) = row.pending_write(record) {
             return Ok(Answer::Value(entry.value));
         }
-        if let Some(entry) = row.kept_read(record) {
+        if let Some(entry) = row.read_entry(record) {
             return Ok(Answer::Value(entry.value));
         }
         if row.reads == READS as u64 {
@@ -70,8 +74,8 @@ impl Tables {
         if word.locked() {
             return Err(Refusal::RecordLocked);
         }
-        let (write_time, read_time) = (word.write_time(), word.read_time());
-        row.add_read(ReadEntry { record, value, write_time, read_time });
+        let (kept_write, kept_read) = (word.write_time(), word.read_time());
+        row.add_read(ReadEntry { record, value, kept_write, kept_read });
         Ok(Answer::Value(value))
     }
 
@@ -89,12 +93,12 @@ impl Tables {
     }
 
     pub(crate) fn abandon(&mut self, owner: u64, seat: u64) -> Result<Answer, Refusal> {
-        let index = self.own_seat(owner, seat)?;
-        if self.rows[index].phase == phase::STORING {
+        let seat = self.own_seat(owner, seat)?;
+        if self.rows[seat].phase == phase::STORING {
             return Err(Refusal::WrongPhase);
         }
-        self.release(index);
-        Ok(Answer::Dropped(seat))
+        self.release(seat);
+        Ok(Answer::Dropped(seat as u64))
     }
 
     /// The seat as an index, once the refusals 2, 3 and 4 are past.

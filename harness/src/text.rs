@@ -41,8 +41,8 @@ pub fn from_tape(tape: &[u8]) -> Result<String, Stop> {
 /// The call of one line, or None where the line is blank or a comment.
 fn parse_line(line: &str) -> Result<Option<TapeCall>, String> {
     let code = line.split('#').next().unwrap_or_default();
-    let words: Vec<&str> = code.split_whitespace().collect();
-    match words[..] {
+    let parts: Vec<&str> = code.split_whitespace().collect();
+    match parts[..] {
         [] => Ok(None),
         ["setup", ref fields @ ..] => parse_setup(fields).map(Some),
         [name, ref fields @ ..] => parse_call(name, fields).map(Some),
@@ -91,7 +91,7 @@ fn parse_setup(fields: &[&str]) -> Result<TapeCall, String> {
     let [count, "start", start, "shares", plan @ ..] = fields else {
         return Err(form.to_string());
     };
-    let middle = plan.iter().position(|&word| word == "limits").ok_or(form)?;
+    let middle = plan.iter().position(|&field| field == "limits").ok_or(form)?;
     Ok(TapeCall::Setup {
         count: number("record count", count)?,
         start: number("start", start)?,
@@ -101,23 +101,23 @@ fn parse_setup(fields: &[&str]) -> Result<TapeCall, String> {
 }
 
 /// Up to sixteen numbers, one to an owner; the missing ones are 0.
-fn sixteen(name: &str, words: &[&str]) -> Result<[u8; OWNERS], String> {
-    if words.len() > OWNERS {
-        return Err(format!("setup takes up to sixteen {name}s, not {}", words.len()));
+fn sixteen(name: &str, fields: &[&str]) -> Result<[u8; OWNERS], String> {
+    if fields.len() > OWNERS {
+        return Err(format!("setup takes up to sixteen {name}s, not {}", fields.len()));
     }
     let mut numbers = [0; OWNERS];
-    for (place, word) in numbers.iter_mut().zip(words) {
-        *place = number(name, word)?;
+    for (place, field) in numbers.iter_mut().zip(fields) {
+        *place = number(name, field)?;
     }
     Ok(numbers)
 }
 
-fn number<T: TryFrom<u64>>(name: &str, word: &str) -> Result<T, String> {
-    if !word.bytes().all(|byte| byte.is_ascii_digit()) {
-        return Err(format!("{name} '{word}' is not a number"));
+fn number<T: TryFrom<u64>>(name: &str, digits: &str) -> Result<T, String> {
+    if !digits.bytes().all(|byte| byte.is_ascii_digit()) {
+        return Err(format!("{name} '{digits}' is not a number"));
     }
-    let fitting = word.parse::<u64>().ok().and_then(|number| T::try_from(number).ok());
-    fitting.ok_or_else(|| format!("{name} {word} does not fit its {}-byte field", size_of::<T>()))
+    let fitting = digits.parse::<u64>().ok().and_then(|number| T::try_from(number).ok());
+    fitting.ok_or_else(|| format!("{name} {digits} does not fit its {}-byte field", size_of::<T>()))
 }
 
 impl fmt::Display for TapeCall {
@@ -141,6 +141,6 @@ impl fmt::Display for TapeCall {
 /// The numbers without the zeros at their end, but at least one.
 fn listed(numbers: &[u8; OWNERS]) -> String {
     let last = numbers.iter().rposition(|&number| number != 0).unwrap_or(0);
-    let words: Vec<String> = numbers[..=last].iter().map(u8::to_string).collect();
-    words.join(" ")
+    let texts: Vec<String> = numbers[..=last].iter().map(u8::to_string).collect();
+    texts.join(" ")
 }

@@ -1,11 +1,10 @@
 //! Calls on tables that no calls could have made: nothing panics, a refusal leaves all, and
 //! every other answer changes what the document lets it change and nothing else.
 
-use std::collections::BTreeMap;
-
 use second::answer::Answer;
+use second::answer_counts::AnswerCounts;
 use second::call::Call;
-use second::flat;
+use second::monitor::Monitor;
 use second::odd;
 use second::random::{Random, each_seed};
 use second::row::Row;
@@ -13,22 +12,15 @@ use second::tables::{Record, Tables};
 
 const CALLS: usize = 12;
 
-type Tally = BTreeMap<String, u64>;
-
-fn run_tables(random: &mut Random, tally: &mut Tally) {
-    let lent = odd::tables(random);
-    let mut monitor = flat::load(&lent.values, &lent.words, &lent.seats);
+fn run_tables(random: &mut Random, answers: &mut AnswerCounts) {
+    let mut monitor = Monitor::load(&odd::tables(random));
     for _ in 0..CALLS {
         let before = monitor.tables().unwrap().clone();
         let call = odd::call(random, &before);
         let answer = monitor.answer(&call);
         let after = monitor.tables().unwrap();
         assert!(is_lawful(&call, answer, &before, after), "{call:?} {answer}");
-        let told = match answer {
-            Answer::Refused(_) | Answer::Aborted(_) => answer.to_string(),
-            _ => answer.word().to_string(),
-        };
-        *tally.entry(told).or_default() += 1;
+        answers.count(answer);
     }
 }
 
@@ -86,27 +78,20 @@ fn is_extended(time: u64, old: &Record, new: &Record) -> bool {
     new == old || (grew && new.value == old.value && new.word.locked() == old.word.locked())
 }
 
-/// Asserts that at least so many of these answers were met.
-fn met(tally: &Tally, told: &str, least: u64) {
-    let count = tally.get(told).copied().unwrap_or(0);
-    println!("{told}: {count}");
-    assert!(count >= least, "only {count} of {told}, not {least}");
-}
-
 #[test]
 fn calls_on_odd_tables() {
-    let mut tally = Tally::new();
-    each_seed(0..30_000, |random| run_tables(random, &mut tally));
+    let mut answers = AnswerCounts::default();
+    each_seed(0..30_000, |random| run_tables(random, &mut answers));
     for refusal in 2..=11 {
-        met(&tally, &format!("refused {refusal}"), 100);
+        answers.met_often(&format!("refused {refusal}"), 100);
     }
     for abort in 21..=24 {
-        met(&tally, &format!("aborted {abort}"), 500);
+        answers.met_often(&format!("aborted {abort}"), 500);
     }
-    for word in ["ready", "seat", "value", "noted", "locked", "timed", "checked", "sealed"] {
-        met(&tally, word, 2_000);
+    for spelling in ["ready", "seat", "value", "noted", "locked", "timed", "checked", "sealed"] {
+        answers.met_often(spelling, 2_000);
     }
-    for word in ["stored", "done", "dropped"] {
-        met(&tally, word, 2_000);
+    for spelling in ["stored", "done", "dropped"] {
+        answers.met_often(spelling, 2_000);
     }
 }

@@ -1,7 +1,7 @@
 //! Refusal 3: each clause of "Damaged" on both of its sides, and rows that only look damaged.
 
 use second::answer::Answer;
-use second::flat::{self, Flat, ROW, SEAT_TABLE};
+use second::flat::{Flat, ROW, SEAT_TABLE};
 use second::monitor::Monitor;
 use second::plan::OWNERS;
 
@@ -34,7 +34,7 @@ fn with(mut row: [u64; ROW], place: usize, number: u64) -> [u64; ROW] {
 fn lent(row: &[u64; ROW]) -> Monitor {
     let mut tables = sound();
     tables.seats[PLAN + 2 * ROW..][..ROW].copy_from_slice(row);
-    flat::load(&tables.values, &tables.words, &tables.seats)
+    Monitor::load(&tables)
 }
 
 /// Whether each of the calls that name the seat is refused 3, and none of them changes anything.
@@ -121,14 +121,14 @@ fn a_free_row_is_never_damaged() {
         assert_eq!(monitor.open(3), Answer::Seat(seat));
     }
     let opened = with(with([0; ROW], 0, 1), 1, 3);
-    assert_eq!(flat::unload(&monitor).seats[PLAN + 2 * ROW..][..ROW], opened);
+    assert_eq!(monitor.unload().seats[PLAN + 2 * ROW..][..ROW], opened);
 }
 
 /// What Open answers owner 0 after the seat table was changed.
 fn opens(change: impl Fn(&mut [u64])) -> Answer {
     let mut tables = sound();
     change(&mut tables.seats);
-    flat::load(&tables.values, &tables.words, &tables.seats).open(0)
+    Monitor::load(&tables).open(0)
 }
 
 #[test]
@@ -187,17 +187,17 @@ fn a_record_named_twice() {
     let mut monitor = lent(&twice);
     assert_eq!(monitor.read(0, 2, 1), Answer::Value(30));
     assert_eq!(monitor.write(0, 2, 1, 40), Answer::Noted(1));
-    assert_eq!(flat::unload(&monitor).seats[PLAN + 2 * ROW + FIRST_WRITE + 1], 40);
-    assert_eq!(flat::unload(&monitor).seats[PLAN + 2 * ROW + FIRST_WRITE + 3], 31);
+    assert_eq!(monitor.unload().seats[PLAN + 2 * ROW + FIRST_WRITE + 1], 40);
+    assert_eq!(monitor.unload().seats[PLAN + 2 * ROW + FIRST_WRITE + 3], 31);
     assert_eq!(monitor.advance(0, 2), Answer::Locked(1));
     assert_eq!(monitor.advance(0, 2), Answer::Aborted(21));
-    assert_eq!(flat::unload(&monitor).words, [5, 5]);
+    assert_eq!(monitor.unload().words, [5, 5]);
 }
 
 #[test]
 fn a_kept_time_beyond_all_times_aborts() {
-    let write_time = HEAD + 2;
-    let mut monitor = lent(&with(row([1, 0, 1, 0, 0]), write_time, FAR));
+    let kept_write = HEAD + 2;
+    let mut monitor = lent(&with(row([1, 0, 1, 0, 0]), kept_write, FAR));
     assert_eq!(monitor.advance(0, 2), Answer::Aborted(24));
 }
 
@@ -210,5 +210,5 @@ fn a_write_shifts_the_later_entries_alone() {
     assert_eq!(monitor.write(0, 2, 0, 20), Answer::Noted(0));
     let mut expected = with(garbage, 4, 2);
     expected[FIRST_WRITE..FIRST_WRITE + 4].copy_from_slice(&[0, 20, 1, 30]);
-    assert_eq!(flat::unload(&monitor).seats[PLAN + 2 * ROW..][..ROW], expected);
+    assert_eq!(monitor.unload().seats[PLAN + 2 * ROW..][..ROW], expected);
 }

@@ -2,6 +2,7 @@
 //! bit for bit, on histories from Setup and on any table contents.
 
 use second::answer::Answer;
+use second::answer_counts::{AnswerCounts, FROM_SETUP};
 use second::call::Call;
 use second::clock::Widths;
 use second::crowd::{Crowd, sound_plan};
@@ -13,7 +14,6 @@ use second::odd;
 use second::plan::{OWNERS, Plan, SEATS};
 use second::random::{Random, each_seed, seeds};
 use second::row::{Row, phase};
-use second::tally::{FROM_SETUP, Tally};
 
 const TOP: u64 = Widths::REAL.greatest_time();
 
@@ -25,15 +25,15 @@ struct Pair {
 
 impl Pair {
     fn new(tables: Flat) -> Pair {
-        let second = flat::load(&tables.values, &tables.words, &tables.seats);
+        let second = Monitor::load(&tables);
         Pair { engine: tables, second }
     }
 
-    fn call(&mut self, call: &Call, tally: &mut Tally) -> Answer {
+    fn call(&mut self, call: &Call, answers: &mut AnswerCounts) -> Answer {
         let answer = engine::answer(&mut self.engine, call);
         assert_eq!(answer, self.second.answer(call), "answers differ: {call:?}");
-        assert!(self.engine == flat::unload(&self.second), "tables differ after {call:?}");
-        tally.count(answer);
+        assert!(self.engine == self.second.unload(), "tables differ after {call:?}");
+        answers.count(answer);
         answer
     }
 }
@@ -45,49 +45,49 @@ fn any_numbers(random: &mut Random, records: usize) -> Flat {
 }
 
 /// A history from Setup, over tables that held anything before it.
-fn compare_history(random: &mut Random, tally: &mut Tally) {
+fn compare_history(random: &mut Random, answers: &mut AnswerCounts) {
     let records = random.pick(&[1, 2, 3, 5, 24, 1024]).unwrap_or(1);
     let mut pair = Pair::new(any_numbers(random, records as usize));
     let setup = Call::Setup { start: lively::start(random), plan: sound_plan(random) };
-    assert_eq!(pair.call(&setup, tally), Answer::Ready(records));
+    assert_eq!(pair.call(&setup, answers), Answer::Ready(records));
     let mut crowd = Crowd::new(random, records);
     for _ in 0..100 + random.below(200) {
         let call = crowd.next_call(random);
-        let answer = pair.call(&call, tally);
+        let answer = pair.call(&call, answers);
         crowd.hear(&call, answer);
     }
 }
 
 #[test]
 fn histories_from_setup() {
-    let mut tally = Tally::default();
-    each_seed(seeds(4_000), |random| compare_history(random, &mut tally));
-    tally.met(&FROM_SETUP);
-    assert_eq!(tally.counted("refused 3"), 0, "damage from Setup on");
-    assert!(tally.calls() >= 600_000, "only {} calls", tally.calls());
+    let mut answers = AnswerCounts::default();
+    each_seed(seeds(4_000), |random| compare_history(random, &mut answers));
+    answers.met(&FROM_SETUP);
+    assert_eq!(answers.counted("refused 3"), 0, "damage from Setup on");
+    assert!(answers.calls() >= 600_000, "only {} calls", answers.calls());
 }
 
 /// Tables that calls may or may not be able to make.
 #[test]
 fn any_table_contents() {
-    let mut tally = Tally::default();
+    let mut answers = AnswerCounts::default();
     each_seed(seeds(40_000), |random| {
         let mut pair = Pair::new(odd::tables(random));
         for _ in 0..12 {
             let call = odd::call(random, pair.second.tables().expect("lengths fit"));
-            pair.call(&call, &mut tally);
+            pair.call(&call, &mut answers);
         }
     });
     each_seed(seeds(4_000), |random| {
         let mut pair = Pair::new(any_numbers(random, 3));
         for _ in 0..4 {
             let call = odd::call(random, pair.second.tables().expect("lengths fit"));
-            pair.call(&call, &mut tally);
+            pair.call(&call, &mut answers);
         }
     });
-    tally.met(&FROM_SETUP);
-    tally.met(&["refused 3", "refused 11"]);
-    assert!(tally.calls() >= 400_000, "only {} calls", tally.calls());
+    answers.met(&FROM_SETUP);
+    answers.met(&["refused 3", "refused 11"]);
+    assert!(answers.calls() >= 400_000, "only {} calls", answers.calls());
 }
 
 /// One field of a row in use put out of order, and the phases in which that is damage.
@@ -125,7 +125,7 @@ const DAMAGES: [Damage; 14] = [
     Damage {
         name: "a time before a read",
         phases: TIMED,
-        apply: |row| row.read_entries[0].write_time = 10,
+        apply: |row| row.read_entries[0].kept_write = 10,
     },
 ];
 
@@ -137,7 +137,7 @@ fn sound_row(phase: u64) -> Row {
     (row.reads, row.writes) = (2, 2);
     row.time = if phase >= phase::CHECKING { 9 } else { 0 };
     for (entry, record) in row.read_entries.iter_mut().zip([2, 0]) {
-        (entry.record, entry.write_time, entry.read_time) = (record, 5, 6);
+        (entry.record, entry.kept_write, entry.kept_read) = (record, 5, 6);
     }
     for (entry, record) in row.write_entries.iter_mut().zip([0, 1]) {
         (entry.record, entry.value) = (record, 7);
@@ -150,7 +150,7 @@ fn tables_with(row: Row) -> Flat {
     let mut monitor = Monitor::new(Widths::REAL, &[1, 2, 3]);
     let plan = Plan { shares: [2; OWNERS], limits: [SEATS as u64; OWNERS] };
     assert_eq!(monitor.setup(5, plan), Answer::Ready(3));
-    let mut tables = flat::unload(&monitor);
+    let mut tables = monitor.unload();
     flat::put_row(&mut tables.seats, 5, &row);
     tables
 }
@@ -168,33 +168,33 @@ fn calls_on(owner: u64) -> [Call; 6] {
 }
 
 /// Whether some call on the row is told that it is damaged.
-fn is_told_damaged(row: Row, tally: &mut Tally) -> bool {
+fn is_told_damaged(row: Row, answers: &mut AnswerCounts) -> bool {
     let calls = calls_on(row.owner).into_iter().chain(calls_on(1));
-    let answers: Vec<Answer> =
-        calls.map(|call| Pair::new(tables_with(row)).call(&call, tally)).collect();
-    answers.contains(&Answer::Refused(3))
+    let told: Vec<Answer> =
+        calls.map(|call| Pair::new(tables_with(row)).call(&call, answers)).collect();
+    told.contains(&Answer::Refused(3))
 }
 
 /// Each damage in each phase, and the sound row itself, under every call.
 #[test]
 fn single_damaged_fields() {
-    let mut tally = Tally::default();
+    let mut answers = AnswerCounts::default();
     for &phase in ANY {
-        assert!(!is_told_damaged(sound_row(phase), &mut tally), "a sound row in phase {phase}");
+        assert!(!is_told_damaged(sound_row(phase), &mut answers), "a sound row in phase {phase}");
         for Damage { name, phases, apply } in DAMAGES {
             let mut row = sound_row(phase);
             apply(&mut row);
-            let told = is_told_damaged(row, &mut tally);
+            let told = is_told_damaged(row, &mut answers);
             assert_eq!(told, phases.contains(&phase), "{name} in phase {phase}");
         }
     }
-    tally.met(&["refused 3"]);
+    answers.met(&["refused 3"]);
 }
 
 /// Tables of wrong lengths, each beside right ones.
 #[test]
 fn wrong_lengths() {
-    let mut tally = Tally::default();
+    let mut answers = AnswerCounts::default();
     let records = [0, 1, 2, 1024, 1025];
     let seats = [0, 1, SEAT_TABLE - 1, SEAT_TABLE, SEAT_TABLE + 1];
     let plan = Plan { shares: [1; OWNERS], limits: [2; OWNERS] };
@@ -204,26 +204,26 @@ fn wrong_lengths() {
                 Flat { values: vec![4; values], words: vec![9; words], seats: vec![0; seats] };
             let setup = Call::Setup { start: 3, plan };
             for call in calls_on(0).into_iter().chain([setup]) {
-                Pair::new(tables.clone()).call(&call, &mut tally);
+                Pair::new(tables.clone()).call(&call, &mut answers);
             }
         }
     }
-    tally.met(&["refused 1", "ready", "refused 4"]);
+    answers.met(&["refused 1", "ready", "refused 4"]);
 }
 
 /// Numbers at and past every limit, up to the greatest.
 #[test]
 fn numbers_at_every_limit() {
-    let mut tally = Tally::default();
+    let mut answers = AnswerCounts::default();
     let edges = [0, 1, 2, 3, 5, 15, 16, 63, 64, 65, 1023, 1024, TOP, TOP + 1, 1 << 63, u64::MAX];
     for phase in phase::WORKING..=phase::STORING {
         for (a, b) in edges.iter().flat_map(|a| edges.iter().map(move |b| (*a, *b))) {
             for call in edge_calls(a, b) {
-                Pair::new(tables_with(sound_row(phase))).call(&call, &mut tally);
+                Pair::new(tables_with(sound_row(phase))).call(&call, &mut answers);
             }
         }
     }
-    tally.met(&["ready", "refused 2", "refused 11"]);
+    answers.met(&["ready", "refused 2", "refused 11"]);
 }
 
 fn edge_calls(a: u64, b: u64) -> [Call; 9] {

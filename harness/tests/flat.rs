@@ -2,7 +2,8 @@
 
 use second::answer::Answer;
 use second::crowd::stray_call;
-use second::flat::{self, Flat, ROW, SEAT_TABLE};
+use second::flat::{Flat, ROW, SEAT_TABLE};
+use second::monitor::Monitor;
 use second::odd;
 use second::random::{Random, each_seed};
 
@@ -11,8 +12,7 @@ fn numbers(random: &mut Random, length: usize) -> Vec<u64> {
 }
 
 fn comes_back(tables: &Flat) {
-    let monitor = flat::load(&tables.values, &tables.words, &tables.seats);
-    assert_eq!(flat::unload(&monitor), *tables);
+    assert_eq!(Monitor::load(tables).unload(), *tables);
 }
 
 #[test]
@@ -27,7 +27,7 @@ fn any_contents_come_back() {
         let count = 1 + random.below(1024) as usize;
         let (values, words) = (numbers(random, count), numbers(random, count));
         let tables = Flat { values, words, seats: numbers(random, SEAT_TABLE) };
-        assert!(flat::load(&tables.values, &tables.words, &tables.seats).tables().is_some());
+        assert!(Monitor::load(&tables).tables().is_some());
         comes_back(&tables);
     });
 }
@@ -50,10 +50,10 @@ fn wrong_lengths_come_back_and_refuse_every_call() {
         let (values, words) = (numbers(random, values), numbers(random, words));
         let tables = Flat { values, words, seats: numbers(random, seats) };
         comes_back(&tables);
-        let mut monitor = flat::load(&tables.values, &tables.words, &tables.seats);
+        let mut monitor = Monitor::load(&tables);
         for _ in 0..8 {
             assert_eq!(monitor.answer(&stray_call(random, 3)), Answer::Refused(1));
         }
-        assert_eq!(flat::unload(&monitor), tables);
+        assert_eq!(monitor.unload(), tables);
     });
 }

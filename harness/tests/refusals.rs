@@ -3,7 +3,7 @@
 use second::answer::Answer;
 use second::call::Call;
 use second::clock::Widths;
-use second::flat::{self, Flat, SEAT_TABLE};
+use second::flat::{Flat, SEAT_TABLE};
 use second::monitor::Monitor;
 use second::plan::{OWNERS, Plan};
 use second::row::Row;
@@ -65,15 +65,16 @@ fn refusal_1_lengths() {
     let lengths = [(0, 0, SEAT_TABLE), (1, 2, SEAT_TABLE), (2, 1, SEAT_TABLE)];
     let more = [(1025, 1025, SEAT_TABLE), (1, 1, SEAT_TABLE - 1), (1, 1, SEAT_TABLE + 1)];
     for (values, words, seats) in lengths.into_iter().chain(more).chain([(1, 1, 0)]) {
-        let mut monitor = flat::load(&vec![1; values], &vec![2; words], &vec![3; seats]);
+        let lent = Flat { values: vec![1; values], words: vec![2; words], seats: vec![3; seats] };
+        let mut monitor = Monitor::load(&lent);
         for call in every_call() {
             refuses(&mut monitor, call, 1);
         }
-        let kept = Flat { values: vec![1; values], words: vec![2; words], seats: vec![3; seats] };
-        assert_eq!(flat::unload(&monitor), kept);
+        assert_eq!(monitor.unload(), lent);
     }
     for count in [1, 1024] {
-        let mut monitor = flat::load(&vec![1; count], &vec![2; count], &[FAR; SEAT_TABLE]);
+        let (values, words) = (vec![1; count], vec![2; count]);
+        let mut monitor = Monitor::load(&Flat { values, words, seats: vec![FAR; SEAT_TABLE] });
         assert_eq!(monitor.setup(0, plan(&[], &[])), Answer::Ready(count as u64));
     }
 }

@@ -3,13 +3,13 @@
 
 use std::collections::BTreeSet;
 
+use second::answer_counts::{AnswerCounts, FROM_A_TAPE, FROM_SETUP};
 use second::lively;
 use second::load::{CONTENDED, ORDINARY};
 use second::program;
 use second::random::{Random, each_seed, seeds};
 use second::replay::{self, NO_ROOM};
 use second::stored;
-use second::tally::{FROM_A_TAPE, FROM_SETUP, Tally};
 
 /// Lines of up to so many bytes are tried with every room there is.
 const SHORT: usize = 4_000;
@@ -19,7 +19,7 @@ const NEAR: usize = 30;
 /// What was compared: the lines by their answers, and how many buffers were lent.
 #[derive(Default)]
 struct Compared {
-    tally: Tally,
+    answers: AnswerCounts,
     tapes: u64,
     buffers: u64,
 }
@@ -32,7 +32,7 @@ impl Compared {
             compare(tape, &lines, room);
             self.buffers += 1;
         }
-        self.tally.count_lines(&String::from_utf8_lossy(&lines));
+        self.answers.count_lines(&String::from_utf8_lossy(&lines));
         self.tapes += 1;
     }
 
@@ -89,7 +89,7 @@ fn every_stored_tape_in_every_room() {
         compared.tape(&stored.tape, rooms);
     }
     compared.print();
-    compared.tally.met(&[&FROM_SETUP[..], &FROM_A_TAPE].concat());
+    compared.answers.met(&[&FROM_SETUP[..], &FROM_A_TAPE].concat());
 }
 
 /// Every cut of Tape X, in every room.
@@ -102,7 +102,7 @@ fn a_cut_at_every_byte() {
         compared.tape(&tape_x[..length], every_room);
     }
     compared.print();
-    compared.tally.met(&["end", "stopped 31", "stopped 32"]);
+    compared.answers.met(&["end", "stopped 31", "stopped 32"]);
 }
 
 /// A random tape, as often as not damaged or cut.
@@ -123,8 +123,8 @@ fn many_tapes_in_some_rooms() {
         compared.tape(&tape, |needed| some_rooms(random, needed));
     });
     compared.print();
-    compared.tally.met(&[&FROM_SETUP[..], &FROM_A_TAPE].concat());
-    assert_eq!(compared.tally.counted("refused 3"), 0, "damage from Setup on");
+    compared.answers.met(&[&FROM_SETUP[..], &FROM_A_TAPE].concat());
+    assert_eq!(compared.answers.counted("refused 3"), 0, "damage from Setup on");
 }
 
 /// Lines of more than half a million bytes.
@@ -135,5 +135,5 @@ fn long_tapes() {
         compared.tape(&load.tape(40_000), rooms);
     }
     compared.print();
-    compared.tally.met(&["done", "aborted 21", "end"]);
+    compared.answers.met(&["done", "aborted 21", "end"]);
 }

@@ -2,9 +2,9 @@
 
 use std::fs;
 
+use second::answer_counts::{AnswerCounts, FROM_A_TAPE, FROM_SETUP};
 use second::program::play_bytes;
 use second::stored::{self, Stored};
-use second::tally::{FROM_A_TAPE, FROM_SETUP, Tally};
 
 fn all() -> Vec<Stored> {
     stored::all().unwrap_or_else(|error| panic!("{error}"))
@@ -12,14 +12,14 @@ fn all() -> Vec<Stored> {
 
 #[test]
 fn every_stored_tape_gives_its_lines() {
-    let mut tally = Tally::default();
+    let mut answers = AnswerCounts::default();
     for Stored { name, tape, lines } in all() {
         let told = String::from_utf8(play_bytes(&tape).unwrap()).unwrap();
         assert_eq!(told, lines, "tapes/{name}");
-        tally.count_lines(&lines);
+        answers.count_lines(&lines);
     }
-    tally.met(&[&FROM_SETUP[..], &FROM_A_TAPE].concat());
-    assert_eq!(tally.counted("refused 3"), 0, "no tape can reach refusal 3");
+    answers.met(&[&FROM_SETUP[..], &FROM_A_TAPE].concat());
+    assert_eq!(answers.counted("refused 3"), 0, "no tape can reach refusal 3");
 }
 
 #[test]

@@ -8,9 +8,9 @@ use std::path::{Path, PathBuf};
 use std::process::{Command, ExitCode, Stdio};
 use std::time::Instant;
 
+use second::answer_counts::AnswerCounts;
 use second::load::{CONTENDED, Load, ORDINARY};
 use second::outside;
-use second::tally::Tally;
 
 const USAGE: &str = "usage: bench [--long]";
 const CALLS: u64 = 1_000_000;
@@ -127,10 +127,10 @@ fn print_speeds(load: &Load, lines: &str, rounds: &[Round]) {
 
 /// How many transactions were done, and how many were aborted.
 fn mix(lines: &str) -> String {
-    let mut tally = Tally::default();
-    tally.count_lines(lines);
-    let aborted: u64 = (21..=24).map(|abort| tally.counted(&format!("aborted {abort}"))).sum();
-    format!("{} done, {aborted} aborted", tally.counted("done"))
+    let mut answers = AnswerCounts::default();
+    answers.count_lines(lines);
+    let aborted: u64 = (21..=24).map(|abort| answers.counted(&format!("aborted {abort}"))).sum();
+    format!("{} done, {aborted} aborted", answers.counted("done"))
 }
 
 fn sorted(numbers: impl Iterator<Item = f64>) -> Vec<f64> {

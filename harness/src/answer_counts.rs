@@ -1,4 +1,4 @@
-//! How often each answer was met: by its word, and refusals, aborts and faults by their number.
+//! How often each answer was met: by its spelling, and refusals, aborts and faults by their number.
 
 use std::collections::BTreeMap;
 
@@ -44,38 +44,38 @@ pub const FROM_A_TAPE: [&str; 8] = [
 ];
 
 #[derive(Clone, Debug, Default)]
-pub struct Tally {
+pub struct AnswerCounts {
     counts: BTreeMap<String, u64>,
     calls: u64,
 }
 
-impl Tally {
+impl AnswerCounts {
     pub fn count(&mut self, answer: Answer) {
         self.calls += 1;
         match answer {
             Answer::Refused(_) | Answer::Aborted(_) => self.add(&answer.to_string()),
-            _ => self.add(answer.word()),
+            _ => self.add(answer.spelling()),
         }
     }
 
     /// Counts the lines that a tape gave.
     pub fn count_lines(&mut self, lines: &str) {
         for line in lines.lines() {
-            let mut words = line.split(' ');
-            match (words.next(), words.next(), words.next()) {
+            let mut parts = line.split(' ');
+            match (parts.next(), parts.next(), parts.next()) {
                 (Some("end"), ..) => self.add("end"),
                 (Some("stopped"), Some(fault), _) => self.add(&format!("stopped {fault}")),
-                (Some(_), Some(word), Some(number)) => self.count_call(word, number),
+                (Some(_), Some(spelling), Some(number)) => self.count_call(spelling, number),
                 _ => self.add(line),
             }
         }
     }
 
-    fn count_call(&mut self, word: &str, number: &str) {
+    fn count_call(&mut self, spelling: &str, number: &str) {
         self.calls += 1;
-        match word {
-            "refused" | "aborted" => self.add(&format!("{word} {number}")),
-            _ => self.add(word),
+        match spelling {
+            "refused" | "aborted" => self.add(&format!("{spelling} {number}")),
+            _ => self.add(spelling),
         }
     }
 
@@ -96,6 +96,11 @@ impl Tally {
         self.counts.get(name).copied().unwrap_or(0)
     }
 
+    /// Asserts that this answer was met at least so often.
+    pub fn met_often(&self, name: &str, least: u64) {
+        at_least(name, self.counted(name), least);
+    }
+
     /// Prints the counts, and asserts that each of these was met.
     pub fn met(&self, names: &[&str]) {
         println!("{} calls compared: {:?}", self.calls, self.counts);
@@ -103,4 +108,10 @@ impl Tally {
             assert!(self.counted(name) > 0, "'{name}' was never answered");
         }
     }
+}
+
+/// Prints a count, and asserts that it is at least this.
+pub fn at_least(what: &str, count: u64, least: u64) {
+    println!("{what}: {count}");
+    assert!(count >= least, "only {count} of {what}, not {least}");
 }
