@@ -1,10 +1,16 @@
 -- `commit::abandon` meets its contract. Assumes nothing.
 use mathlib.Core.Path.{_∙_, sym}
 use borrow.Author.Needs.{needs}
+use denote.Ref.{now}
+use Rattle.rules.specs.Tables.{Tables, tables}
 use Rattle.rules.specs.Advance.{abandon}
 use Rattle.seats.specs.Ready.{in-use, phase-below, ready-call, refused-call}
 use Rattle.commit.proofs.abandon.Statement.{statement}
 use Rattle.commit.proofs.abandon.Tie as tie
+
+-- the tables as the call found them
+abbrev found : tie.Start → Tables
+found start = tables (now (start .args .values)) (now (start .args .words)) (now (start .args .seats))
 
 returns : tie.Need-returns
 unfolding abandon
@@ -26,7 +32,9 @@ returns-2 c =
     let at-gone : tie.After-let-go = search in
     let ready : tie.After-admission2 = search (at-gone) in
     let at-admit : tie.After-admit = ready .before .before in
-    at-gone .let-go .ensures _ _ ∙ sym (ready-call _ _ _ _ _ _ (sym (at-admit .admit .ensures) ∙ ready .admission2 .given .1) _)
+    let start : tie.Start = search (at-admit) in
+    at-gone .let-go .ensures (found start) _
+    ∙ sym (ready-call _ _ _ _ _ _ (sym (at-admit .admit .ensures) ∙ ready .admission2 .given .1) _)
 
 pub abandon-spec : {M : Type 1} → statement M
 abandon-spec =

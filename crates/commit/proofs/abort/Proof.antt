@@ -14,7 +14,7 @@ pub abort-spec : {M : Type 1} → statement M
 abort-spec =
     tie.close
     (tie.spec
-    (search needs)
+    (λ c κs. let start : tie.Start = search in start .pre)
     (search needs)
     (search needs)
     returns)

@@ -1,9 +1,40 @@
 -- `commit::advance_in` meets its contract. Assumes nothing.
+use native.Mathlib.Omega.{arith}
 use borrow.Author.Tests.{ne-eqb}
 use borrow.Author.Needs.{needs}
+use denote.Ref.{now}
+use Rattle.rules.specs.Tables.{Tables, tables}
 use Rattle.rules.specs.Advance.{advanceIn}
 use Rattle.commit.proofs.advance_in.Statement.{statement}
 use Rattle.commit.proofs.advance_in.Tie as tie
+
+-- the tables as the call found them
+abbrev found : tie.Start → Tables
+found start = tables (now (start .args .values)) (now (start .args .words)) (now (start .args .seats))
+
+lock-phase-requires : tie.Need-lock-phase-requires
+lock-phase-requires c κs =
+    let arm : tie.At-match-keys1 = search in
+    let start : tie.Start = search (arm) in
+    record { in-use = start .pre; phase-in = omega (arith, arm .match .keys1) }
+
+lock-phase-requires-2 : tie.Need-lock-phase-requires-2
+lock-phase-requires-2 c κs =
+    let arm : tie.At-match-keys2 = search in
+    let start : tie.Start = search (arm) in
+    record { in-use = start .pre; phase-in = omega (arith, arm .match .keys2) }
+
+check-phase-requires : tie.Need-check-phase-requires
+check-phase-requires c κs =
+    let arm : tie.At-match-keys3 = search in
+    let start : tie.Start = search (arm) in
+    record { in-use = start .pre; phase-is = arm .match .keys3 }
+
+store-phase-requires : tie.Need-store-phase-requires
+store-phase-requires c κs =
+    let arm : tie.At-match-keys4 = search in
+    let start : tie.Start = search (arm) in
+    record { in-use = start .pre; phase-is = arm .match .keys4 }
 
 returns : tie.Need-returns
 unfolding advanceIn
@@ -11,7 +42,7 @@ returns c =
     let at-step : tie.After-lock-phase = search in
     let working : tie.At-match-keys1 = search (at-step) in
     let start : tie.Start = search (working) in
-    simp (← start .pre .head .phase-is, working .match .keys1) (at-step .lock-phase .ensures _)
+    simp (← start .pre .head .phase-is, working .match .keys1) (at-step .lock-phase .ensures (found start))
 
 returns-2 : tie.Need-returns-2
 unfolding advanceIn
@@ -19,7 +50,7 @@ returns-2 c =
     let at-step : tie.After-lock-phase2 = search in
     let locking : tie.At-match-keys2 = search (at-step) in
     let start : tie.Start = search (locking) in
-    simp (← start .pre .head .phase-is, locking .match .keys2) (at-step .lock-phase2 .ensures _)
+    simp (← start .pre .head .phase-is, locking .match .keys2) (at-step .lock-phase2 .ensures (found start))
 
 returns-3 : tie.Need-returns-3
 unfolding advanceIn
@@ -27,7 +58,7 @@ returns-3 c =
     let at-step : tie.After-check-phase = search in
     let checking : tie.At-match-keys3 = search (at-step) in
     let start : tie.Start = search (checking) in
-    simp (← start .pre .head .phase-is, checking .match .keys3) (at-step .check-phase .ensures _)
+    simp (← start .pre .head .phase-is, checking .match .keys3) (at-step .check-phase .ensures (found start))
 
 returns-4 : tie.Need-returns-4
 unfolding advanceIn
@@ -65,10 +96,10 @@ pub advance-in-spec : {M : Type 1} → statement M
 advance-in-spec =
     tie.close
     (tie.spec
-    (search needs)
-    (search needs)
-    (search needs)
-    (search needs)
+    lock-phase-requires
+    lock-phase-requires-2
+    check-phase-requires
+    store-phase-requires
     (search needs)
     (search needs)
     returns

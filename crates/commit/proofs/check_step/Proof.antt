@@ -1,6 +1,8 @@
 -- `commit::check_step` meets its contract. Assumes nothing.
 use mathlib.Core.Path.{_∙_, sym}
 use borrow.Author.Needs.{needs}
+use denote.Ref.{now}
+use Rattle.rules.specs.Tables.{withWords, withSeats}
 use Rattle.seats.specs.Outcomes.{entry-at}
 use Rattle.commit.proofs.Checks.{check-passes, judged-covered}
 use Rattle.commit.proofs.check_step.Statement.{statement}
@@ -18,7 +20,9 @@ returns c = λ t.
     let head = start .pre .in-use .head in
     let kept = entry-at (at-row .row-of .ensures) _ (at-kept .at3 .ensures) in
     let item = entry-at (at-row .row-of .ensures) _ (at-item .at .ensures) in
-    at-pass .pass .ensures _ ∙ check-passes _ _ head (sym item) (judged-covered _ _ head (rw kept (covered .if1 .taken)))
+    let found = withSeats (withWords t (now (start .args .words))) (now (start .args .seats)) in
+    let verdict = judged-covered found (start .args .seat) head (rw kept (covered .if1 .taken)) in
+    at-pass .pass .ensures found ∙ check-passes _ _ head (sym item) verdict
 
 -- it does not: the word decides
 check-word-requires : tie.Need-check-word-requires
@@ -38,6 +42,11 @@ check-word-requires c κs =
       kept-is = sym (entry-at row-is _ (at-write .at2 .ensures));
       uncovered = rw (entry-at row-is _ (at-kept .at3 .ensures)) (uncovered .if1 .left);
     }
+
+returns-2 : tie.Need-returns-2
+returns-2 c = λ t.
+    let at-check : tie.After-check-word = search in
+    at-check .check-word .ensures t
 
 pub check-step-spec : {M : Type 1} → statement M
 check-step-spec =
@@ -59,4 +68,4 @@ check-step-spec =
     check-word-requires
     (search needs)
     (search needs)
-    (search needs))
+    returns-2)

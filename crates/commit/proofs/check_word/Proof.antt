@@ -38,7 +38,7 @@ returns c = λ t.
     let passes : tie.At-match-keys1 = search (at-pass) in
     let at-judge = passes .before in
     let asked = start at-judge .pre in
-    at-pass .pass .ensures _
+    at-pass .pass .ensures (found t (start at-judge))
     ∙ check-passes _ _ (asked .in-use .head) (asked .item-is) (verdict-is t at-judge ∙ is-passes _ (passes .match .keys1))
 
 -- THE WORD IS EXTENDED
@@ -58,7 +58,7 @@ returns-2 c = λ t.
     let at-word : tie.After-at = search (at-judge) in
     let asked = start at-judge .pre in
     let verdict = verdict-is t at-judge ∙ is-extends _ (extends .match .keys2) in
-    at-pass .pass2 .ensures _
+    at-pass .pass2 .ensures (withWords (found t (start at-judge)) _)
     ∙ check-extends _ _ (asked .in-use .head) (asked .item-is) verdict (at-word .at .ensures) (at-longer .extended-word .ensures) (at-store .store .ensures)
 
 -- THE ENTRY FAILS
@@ -68,6 +68,12 @@ returns-3 c = λ t.
     let fails : tie.After-found = search (at-abort) in
     let at-judge = fails .before .before in
     at-abort .abort .ensures t ∙ check-fails _ _ (verdict-is t at-judge ∙ fails .found .given .1)
+
+abort-requires : tie.Need-abort-requires
+abort-requires c κs =
+    let fails : tie.After-found = search in
+    let asked = start (fails .before .before) .pre in
+    record { in-use = asked .in-use; phase-in = omega (arith, asked .phase-is) }
 
 pub check-word-spec : {M : Type 1} → statement M
 check-word-spec =
@@ -84,7 +90,7 @@ check-word-spec =
     (search needs)
     (search needs)
     (search needs)
-    (search needs)
+    abort-requires
     (search needs)
     (search needs)
     returns

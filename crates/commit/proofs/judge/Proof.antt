@@ -23,7 +23,7 @@ returns-2 c =
 unowned : (c : tie.After-is-blocked) →
     let start : tie.Start = search in
     let at-read : tie.After-read-time = search in
-    byWord (start .args .«kept_write») (start .args .time) (start .args .word) (start .args .own)
+    byWord (start .args .kept-write) (start .args .time) (start .args .word) (start .args .own)
     ≡ cond (c .is-blocked .result) (Fails wordBlocked) (cond (ltb (at-read .read-time .result) (start .args .time)) Extends Passes)
 unfolding byWord
 unowned c =

@@ -5,6 +5,17 @@ use Rattle.rules.specs.Advance.{lockPhase}
 use Rattle.commit.proofs.lock_phase.Statement.{statement}
 use Rattle.commit.proofs.lock_phase.Tie as tie
 
+lock-step-requires : tie.Need-lock-step-requires
+lock-step-requires c κs =
+    let below : tie.Then1 = search in
+    let start : tie.Start = search (below) in
+    record { in-use = start .pre .in-use; phase-in = start .pre .phase-in; below = below .if1 .taken }
+
+time-step-requires : tie.Need-time-step-requires
+time-step-requires c κs =
+    let start : tie.Start = search in
+    start .pre
+
 returns : tie.Need-returns
 unfolding lockPhase
 returns c = λ t.
@@ -27,11 +38,11 @@ pub lock-phase-spec : {M : Type 1} → statement M
 lock-phase-spec =
     tie.close
     (tie.spec
-    (search needs)
+    lock-step-requires
     (search needs)
     (search needs)
     returns
-    (search needs)
+    time-step-requires
     (search needs)
     (search needs)
     returns-2)

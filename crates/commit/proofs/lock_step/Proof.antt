@@ -1,10 +1,17 @@
 -- `commit::lock_step` meets its contract. Assumes nothing.
 use mathlib.Core.Path.{refl}
+use native.Mathlib.Omega.{arith}
 use borrow.Author.Needs.{needs}
 use Rattle.rules.specs.Advance.{lockStep}
 use Rattle.seats.specs.Outcomes.{entry-at, same}
 use Rattle.commit.proofs.lock_step.Statement.{statement}
 use Rattle.commit.proofs.lock_step.Tie as tie
+
+abort-requires : tie.Need-abort-requires
+abort-requires c κs =
+    let at-row : tie.After-row-of = search in
+    let start : tie.Start = search (at-row) in
+    record { in-use = start .pre .in-use; phase-in = omega (arith, start .pre .phase-in) }
 
 -- the word is locked
 returns : tie.Need-returns
@@ -53,7 +60,7 @@ lock-step-spec =
     (search needs)
     (search needs)
     (search needs)
-    (search needs)
+    abort-requires
     (search needs)
     (search needs)
     returns

@@ -1,5 +1,6 @@
 -- `commit::time_step` meets its contract. Assumes nothing.
 use mathlib.Core.Path.{_≡_, refl}
+use native.Mathlib.Omega.{arith}
 use borrow.Author.Tests.{le-ltb, lt-ltb}
 use borrow.Author.Needs.{needs}
 use denote.Ref.{now}
@@ -9,6 +10,12 @@ use Rattle.seats.specs.Outcomes.{next, same}
 use Rattle.commit.proofs.Entries.{commit-is}
 use Rattle.commit.proofs.time_step.Statement.{statement}
 use Rattle.commit.proofs.time_step.Tie as tie
+
+abort-requires : tie.Need-abort-requires
+abort-requires c κs =
+    let at-row : tie.After-row-of = search in
+    let start : tie.Start = search (at-row) in
+    record { in-use = start .pre .in-use; phase-in = omega (arith, start .pre .phase-in) }
 
 -- the time is the rules' commit time
 time-is : (c : tie.After-due-time) →
@@ -47,7 +54,7 @@ time-step-spec =
     (search needs)
     (search needs)
     (search needs)
-    (search needs)
+    abort-requires
     (search needs)
     (search needs)
     returns
