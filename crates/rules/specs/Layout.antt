@@ -64,7 +64,8 @@ writesAt = 4
 abbrev pub timeAt : ℕ
 timeAt = 5
 
--- then the read entries: record, value, and the times that are kept, write time and read time. A record's number is `item`, since `record` is a word of the language
+-- then the read entries: record, value, and the times that are kept, write time and read time
+-- (a record's number is `item` in definitions and code: `record` is a word of the language)
 abbrev pub readsFrom : ℕ
 readsFrom = 6
 

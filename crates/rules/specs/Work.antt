@@ -6,8 +6,8 @@ use lib.ListN.{getD}
 use lib.Dec.{eqb, ltb, leb}
 use Rattle.clock.specs.Word.{isLocked, writeTime, readTime}
 use Rattle.rules.specs.Tests.{first}
-use Rattle.rules.specs.Layout.{mostReads, mostWrites, writeWidth, readsAt, writesAt, readItemAt, readValueAt, keptWriteAt, keptReadAt, writeItemAt, writeValueAt}
-use Rattle.rules.specs.Layout.{working, row, put, cell, reads, writes, readItem, readValue, writeItem, writeValue}
+use Rattle.rules.specs.Layout.{readsAt, writesAt, readItemAt, readValueAt, keptWriteAt, keptReadAt, writeItemAt, writeValueAt}
+use Rattle.rules.specs.Layout.{mostReads, mostWrites, writeWidth, working, row, put, cell, reads, writes, readItem, readValue, writeItem, writeValue}
 use Rattle.rules.specs.Tables.{Tables, Outcome, withSeats, answered, unless}
 use Rattle.rules.specs.Refusals.{recordRefusal}
 use Rattle.rules.specs.declared.Answer.the-variants.{Value, Noted, Refused}

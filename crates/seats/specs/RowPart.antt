@@ -67,7 +67,8 @@ module _ (l : List ℕ) (s : ℕ) where
   cleared-past zero = ap (cleared l s) (let e : 0 ≡ min 0 (length l - rowAt s) = omega arith in e)
   cleared-past (suc n) = go (cleared-past n) (decLe (length l) (rowAt s + n))
     where
-      go : cleared l s n ≡ cleared l s (min n (length l - rowAt s)) → Dec (length l ≤ rowAt s + n) → put (cleared l s n) s n 0 ≡ cleared l s (min (suc n) (length l - rowAt s))
+      go : cleared l s n ≡ cleared l s (min n (length l - rowAt s)) → Dec (length l ≤ rowAt s + n) →
+          put (cleared l s n) s n 0 ≡ cleared l s (min (suc n) (length l - rowAt s))
       go h (yes y) =
           put-past (cleared l s n) s n 0 (rw (length-cleared l s n) y)
           ∙ h

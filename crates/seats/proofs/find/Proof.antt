@@ -2,8 +2,8 @@
 use Prim.Native.Nat.{_+_, _*_, _-_}
 use mathlib.Core.Path.{sym}
 use native.Mathlib.Omega.{arith}
-use borrow.Author.Needs.{needs}
 use borrow.Author.Tests.{eq-eqb, ne-eqb}
+use borrow.Author.Needs.{needs}
 use lib.Dec.{eqb}
 use lib.ListN.{getD}
 use Rattle.rows.specs.Search.{Passed, found-first, found-none, passed-more, passed-none, within}
@@ -16,32 +16,23 @@ Inv-loop row first width n item i₀ i = Passed (λ k. eqb (getD row (first + wi
 abbrev μ-loop : tie.MeasureT-loop
 μ-loop row first width n item i₀ i = n - i
 
-loop-holds : tie.Need-loop-holds Inv-loop μ-loop
-loop-holds c = passed-none _ _
-
 mul-at : tie.Need-mul-at Inv-loop μ-loop
 mul-at c = omega (arith, within _ _ _ _ (c .before .before .before .pre) (c .loop-test .taken))
 
 add-at : tie.Need-add-at Inv-loop μ-loop
 add-at c = omega (arith, within _ _ _ _ (c .before .before .before .pre) (c .loop-test .taken))
 
-at-requires : tie.Need-at-requires Inv-loop μ-loop
-at-requires c κs = search needs
-
 returns : tie.Need-returns Inv-loop μ-loop
-returns c = sym (found-first _ _ _ (c .before .before .before .loop .inv) (c .before .before .loop-test .taken) (simp (← c .before .at .ensures, eq-eqb _ _ (c .if1 .taken))))
-
-add-i : tie.Need-add-i Inv-loop μ-loop
-add-i c = omega arith
-
-loop-less : tie.Need-loop-less Inv-loop μ-loop
-loop-less c = omega arith
+returns c =
+    let in-loop : tie.In-loop Inv-loop μ-loop = search in
+    sym (found-first _ _ _ (in-loop .before .loop .inv) (in-loop .loop-test .taken)
+    (simp (← c .before .at .ensures, eq-eqb _ _ (c .if1 .taken))))
 
 loop-again : tie.Need-loop-again Inv-loop μ-loop
-loop-again c = passed-more _ _ _ (c .before .before .before .loop .inv) (c .before .before .loop-test .taken) (simp (← c .before .at .ensures, ne-eqb _ _ (c .if1 .left)))
-
-returns-2 : tie.Need-returns-2 Inv-loop μ-loop
-returns-2 c = sym (found-none _ _ _ (c .before .loop .inv) (c .loop-test .left))
+loop-again c =
+    let in-loop : tie.In-loop Inv-loop μ-loop = search in
+    passed-more _ _ _ (in-loop .before .loop .inv) (in-loop .loop-test .taken)
+    (simp (← c .before .at .ensures, ne-eqb _ _ (c .if1 .left)))
 
 pub find-spec : {M : Type 1} → statement M
 find-spec =
@@ -49,12 +40,12 @@ find-spec =
     (tie.spec
     Inv-loop
     μ-loop
-    loop-holds
+    (λ c. passed-none _ _)
     mul-at
     add-at
-    at-requires
+    (search needs)
     returns
-    add-i
-    loop-less
+    (λ c. omega arith)
+    (λ c. omega arith)
     loop-again
-    returns-2)
+    (λ c. sym (found-none _ _ _ (c .before .loop .inv) (c .loop-test .left))))

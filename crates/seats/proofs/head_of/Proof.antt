@@ -4,43 +4,31 @@ use Rattle.seats.specs.Heads.{headOf}
 use Rattle.seats.proofs.head_of.Statement.{statement}
 use Rattle.seats.proofs.head_of.Tie as tie
 
-at-requires : tie.Need-at-requires
-at-requires c κs = search needs
-
-at-requires-2 : tie.Need-at-requires-2
-at-requires-2 c κs = search needs
-
-at-requires-3 : tie.Need-at-requires-3
-at-requires-3 c κs = search needs
-
-at-requires-4 : tie.Need-at-requires-4
-at-requires-4 c κs = search needs
-
-at-requires-5 : tie.Need-at-requires-5
-at-requires-5 c κs = search needs
-
-at-requires-6 : tie.Need-at-requires-6
-at-requires-6 c κs = search needs
-
 returns : tie.Need-returns
 unfolding headOf
-returns c = simp (
-  ← c .at6 .ensures,
-  ← c .before .at5 .ensures,
-  ← c .before .before .at4 .ensures,
-  ← c .before .before .before .at3 .ensures,
-  ← c .before .before .before .before .at2 .ensures,
-  ← c .before .before .before .before .before .at .ensures,
-)
+returns c =
+    let at-writes : tie.After-at5 = c .before in
+    let at-reads : tie.After-at4 = at-writes .before in
+    let at-position : tie.After-at3 = at-reads .before in
+    let at-owner : tie.After-at2 = at-position .before in
+    let at-phase : tie.After-at = at-owner .before in
+    simp (
+      ← at-phase .at .ensures,
+      ← at-owner .at2 .ensures,
+      ← at-position .at3 .ensures,
+      ← at-reads .at4 .ensures,
+      ← at-writes .at5 .ensures,
+      ← c .at6 .ensures,
+    )
 
 pub head-of-spec : {M : Type 1} → statement M
 head-of-spec =
     tie.close
     (tie.spec
-    at-requires
-    at-requires-2
-    at-requires-3
-    at-requires-4
-    at-requires-5
-    at-requires-6
+    (search needs)
+    (search needs)
+    (search needs)
+    (search needs)
+    (search needs)
+    (search needs)
     returns)

@@ -1,6 +1,6 @@
 -- `seats::is_bad_head` meets its contract. Assumes nothing.
-use borrow.Author.Needs.{needs}
 use borrow.Author.Tests.{le-leb, le-ltb, lt-leb, lt-ltb}
+use borrow.Author.Needs.{needs}
 use Rattle.rules.specs.Tests.{oneOf}
 use Rattle.rules.specs.Refusals.{badHead}
 use Rattle.seats.specs.Heads.{headRow}
@@ -13,56 +13,63 @@ returns c = simp (lt-ltb _ _ (c .if1 .taken))
 
 returns-2 : tie.Need-returns-2
 unfolding badHead headRow oneOf
-returns-2 c = simp (
-  le-leb _ _ (c .if2 .taken),
-  le-ltb _ _ (c .before .before .if1 .left),
-)
+returns-2 c =
+    let phase-in : tie.Else1 = search in
+    simp (le-ltb _ _ (phase-in .if1 .left), le-leb _ _ (c .if2 .taken))
 
 returns-3 : tie.Need-returns-3
 unfolding badHead headRow oneOf
-returns-3 c = simp (
-  lt-ltb _ _ (c .if3 .taken),
-  lt-leb _ _ (c .before .before .if2 .left),
-  le-ltb _ _ (c .before .before .before .before .if1 .left),
-)
+returns-3 c =
+    let owner-in : tie.Else2 = search in
+    let phase-in : tie.Else1 = search (owner-in) in
+    simp (le-ltb _ _ (phase-in .if1 .left), lt-leb _ _ (owner-in .if2 .left), lt-ltb _ _ (c .if3 .taken))
 
 returns-4 : tie.Need-returns-4
 unfolding badHead headRow oneOf
-returns-4 c = simp (
-  lt-ltb _ _ (c .if4 .taken),
-  le-ltb _ _ (c .before .before .if3 .left),
-  lt-leb _ _ (c .before .before .before .before .if2 .left),
-  le-ltb _ _ (c .before .before .before .before .before .before .if1 .left),
-)
-
-is-misplaced-requires : tie.Need-is-misplaced-requires
-is-misplaced-requires c κs = search needs
+returns-4 c =
+    let reads-in : tie.Else3 = search in
+    let owner-in : tie.Else2 = search (reads-in) in
+    let phase-in : tie.Else1 = search (owner-in) in
+    simp (
+      le-ltb _ _ (phase-in .if1 .left),
+      lt-leb _ _ (owner-in .if2 .left),
+      le-ltb _ _ (reads-in .if3 .left),
+      lt-ltb _ _ (c .if4 .taken),
+    )
 
 returns-5 : tie.Need-returns-5
 unfolding badHead headRow oneOf
-returns-5 c = simp (
-  c .if5 .taken,
-  ← c .before .is-misplaced .ensures,
-  le-ltb _ _ (c .before .before .if4 .left),
-  le-ltb _ _ (c .before .before .before .before .if3 .left),
-  lt-leb _ _ (c .before .before .before .before .before .before .if2 .left),
-  le-ltb _ _ (c .before .before .before .before .before .before .before .before .if1 .left),
-)
-
-is-late-requires : tie.Need-is-late-requires
-is-late-requires c κs = search needs
+returns-5 c =
+    let writes-in : tie.Else4 = search in
+    let reads-in : tie.Else3 = search (writes-in) in
+    let owner-in : tie.Else2 = search (reads-in) in
+    let phase-in : tie.Else1 = search (owner-in) in
+    simp (
+      le-ltb _ _ (phase-in .if1 .left),
+      lt-leb _ _ (owner-in .if2 .left),
+      le-ltb _ _ (reads-in .if3 .left),
+      le-ltb _ _ (writes-in .if4 .left),
+      ← c .before .is-misplaced .ensures,
+      c .if5 .taken,
+    )
 
 returns-6 : tie.Need-returns-6
 unfolding badHead headRow oneOf
-returns-6 c = simp (
-  ← c .is-late .ensures,
-  c .before .if5 .left,
-  ← c .before .before .is-misplaced .ensures,
-  le-ltb _ _ (c .before .before .before .if4 .left),
-  le-ltb _ _ (c .before .before .before .before .before .if3 .left),
-  lt-leb _ _ (c .before .before .before .before .before .before .before .if2 .left),
-  le-ltb _ _ (c .before .before .before .before .before .before .before .before .before .if1 .left),
-)
+returns-6 c =
+    let in-place : tie.Else5 = search in
+    let writes-in : tie.Else4 = search (in-place) in
+    let reads-in : tie.Else3 = search (writes-in) in
+    let owner-in : tie.Else2 = search (reads-in) in
+    let phase-in : tie.Else1 = search (owner-in) in
+    simp (
+      le-ltb _ _ (phase-in .if1 .left),
+      lt-leb _ _ (owner-in .if2 .left),
+      le-ltb _ _ (reads-in .if3 .left),
+      le-ltb _ _ (writes-in .if4 .left),
+      ← in-place .before .is-misplaced .ensures,
+      in-place .if5 .left,
+      ← c .is-late .ensures,
+    )
 
 pub is-bad-head-spec : {M : Type 1} → statement M
 is-bad-head-spec =
@@ -72,7 +79,7 @@ is-bad-head-spec =
     returns-2
     returns-3
     returns-4
-    is-misplaced-requires
+    (search needs)
     returns-5
-    is-late-requires
+    (search needs)
     returns-6)

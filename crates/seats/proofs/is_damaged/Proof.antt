@@ -22,7 +22,9 @@ returns c =
     simp (← start .pre .phase-is, eq-eqb _ _ (c .if1 .taken))
 
 -- A ROW IN USE: its head and its entries decide
-in-use : (c : tie.Else1) → let start : tie.Start = search in damaged (g start) (start .args .records) ≡ badHead (g start) || badEntry (g start) (start .args .records)
+in-use : (c : tie.Else1) →
+    let start : tie.Start = search in
+    damaged (g start) (start .args .records) ≡ badHead (g start) || badEntry (g start) (start .args .records)
 unfolding damaged oneOf
 in-use c =
     let start : tie.Start = search in
