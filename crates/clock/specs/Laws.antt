@@ -7,15 +7,16 @@ use mathlib.Core.Path.{_≡_, refl, ap, _∙_}
 use mathlib.Core.Bool.{Bool, true, false, and-false}
 use borrow.Author.Tests.{eq-eqb, ne-eqb, lt-ltb, le-ltb, le-leb, lt-leb}
 use Rattle.clock.specs.declared.Packed.the-variants.{Word, Refused}
-use Rattle.clock.specs.Word.{reach, span, top, lockBit, isLocked, distance, writeTime, readTime, bit, word, withLock, fresh, extended, packed, freshAt, extendedTo}
+use Rattle.clock.specs.Word.{distanceSpan, timeSpan, top, lockBit, isLocked, distance, writeTime, readTime, bit, joined, withLock}
+use Rattle.clock.specs.Word.{fresh, extended, packed, freshAt, extendedTo}
 
 -- the ranges
-pub distance-small : (w : ℕ) → distance w < reach
-unfolding distance reach
+pub distance-small : (w : ℕ) → distance w < distanceSpan
+unfolding distance distanceSpan
 distance-small w = omega arith
 
 pub writeTime-small : (w : ℕ) → writeTime w ≤ top
-unfolding writeTime top span
+unfolding writeTime top timeSpan
 writeTime-small w = omega arith
 
 pub write≤read : (w : ℕ) → writeTime w ≤ readTime w
@@ -23,7 +24,7 @@ unfolding readTime
 write≤read w = omega arith
 
 pub readTime-fits : (w : ℕ) → readTime w < 2 ^ 63
-unfolding readTime writeTime distance span reach
+unfolding readTime writeTime distance timeSpan distanceSpan
 readTime-fits w = omega arith
 
 -- all that is to be known of a word
@@ -38,17 +39,17 @@ pub bit-small : (b : Bool) → bit b ≤ 1
 bit-small true = omega arith
 bit-small false = omega arith
 
-pub word-isLocked : (b : Bool) (d t : ℕ) → d < reach → t ≤ top → isLocked (word b d t) ≡ b
-unfolding isLocked word lockBit reach span top
-word-isLocked true d t hd ht = eq-eqb (word true d t / lockBit) 1 (omega arith)
-word-isLocked false d t hd ht = ne-eqb (word false d t / lockBit) 1 (λ e. omega arith)
+pub word-isLocked : (b : Bool) (d t : ℕ) → d < distanceSpan → t ≤ top → isLocked (joined b d t) ≡ b
+unfolding isLocked joined lockBit distanceSpan timeSpan top
+word-isLocked true d t hd ht = eq-eqb (joined true d t / lockBit) 1 (omega arith)
+word-isLocked false d t hd ht = ne-eqb (joined false d t / lockBit) 1 (λ e. omega arith)
 
-pub word-distance : (b : Bool) (d t : ℕ) → d < reach → t ≤ top → distance (word b d t) ≡ d
-unfolding distance word lockBit reach span top
+pub word-distance : (b : Bool) (d t : ℕ) → d < distanceSpan → t ≤ top → distance (joined b d t) ≡ d
+unfolding distance joined lockBit distanceSpan timeSpan top
 word-distance b d t hd ht = omega arith
 
-pub word-is : (b : Bool) (d t : ℕ) → d < reach → t ≤ top → Is (word b d t) b t (t + d)
-unfolding readTime writeTime distance word lockBit reach span top
+pub word-is : (b : Bool) (d t : ℕ) → d < distanceSpan → t ≤ top → Is (joined b d t) b t (t + d)
+unfolding readTime writeTime distance joined lockBit distanceSpan timeSpan top
 word-is b d t hd ht =
     record {
       fits = omega (arith, bit-small b);
@@ -59,15 +60,15 @@ word-is b d t hd ht =
 
 -- a word read apart and put together again is the same word
 bit-lock : (w : ℕ) → w < 2 ^ 64 → bit (isLocked w) ≡ w / lockBit
-unfolding isLocked lockBit reach span
+unfolding isLocked lockBit distanceSpan timeSpan
 bit-lock w h = by (decLt w lockBit)
   where
     by : Dec (w < lockBit) → bit (isLocked w) ≡ w / lockBit
     by (yes l) = rw (ne-eqb (w / lockBit) 1 (λ e. omega arith)) (omega arith)
     by (no l) = rw (eq-eqb (w / lockBit) 1 (omega arith)) (omega arith)
 
-pub word-parts : (w : ℕ) → w < 2 ^ 64 → word (isLocked w) (distance w) (writeTime w) ≡ w
-unfolding word distance writeTime lockBit reach span
+pub word-parts : (w : ℕ) → w < 2 ^ 64 → joined (isLocked w) (distance w) (writeTime w) ≡ w
+unfolding joined distance writeTime lockBit distanceSpan timeSpan
 word-parts w h = omega (arith, bit-lock w h)
 
 -- two words of the same meaning are the same
@@ -85,7 +86,9 @@ withLock-is b w = word-is b (distance w) (writeTime w) (distance-small w) (write
 pub withLock-twice : (a b : Bool) (w : ℕ) → withLock a (withLock b w) ≡ withLock a w
 unfolding withLock
 withLock-twice a b w =
-    cc (word-distance b (distance w) (writeTime w) (distance-small w) (writeTime-small w), word-is b (distance w) (writeTime w) (distance-small w) (writeTime-small w) .is-written)
+    let same-distance = word-distance b (distance w) (writeTime w) (distance-small w) (writeTime-small w) in
+    let same-word = word-is b (distance w) (writeTime w) (distance-small w) (writeTime-small w) in
+    cc (same-distance, same-word .is-written)
 
 pub withLock-same : (w : ℕ) → w < 2 ^ 64 → withLock (isLocked w) w ≡ w
 unfolding withLock
@@ -95,16 +98,17 @@ pub withLock-back : (w : ℕ) → w < 2 ^ 64 → isLocked w ≡ false → withLo
 withLock-back w h l = rw (withLock-twice, ← l) (withLock-same w h)
 
 pub fresh-is : (t : ℕ) → t ≤ top → Is (fresh t) false t t
-unfolding fresh reach
+unfolding fresh distanceSpan
 fresh-is t h =
-    let p : Is (word false 0 t) false t (t + 0) = word-is false 0 t (omega arith) h in
+    let p : Is (joined false 0 t) false t (t + 0) = word-is false 0 t (omega arith) h in
     record { fits = p .fits; is-locked = p .is-locked; is-written = p .is-written; is-read = omega arith }
 
 module _ (w t : ℕ) (lo : writeTime w ≤ t) (hi : t ≤ top) where
-  extended-word : Is (extended w t) (isLocked w) (writeTime w + (t - writeTime w) / reach * reach) t
-  unfolding extended reach
+  extended-word : Is (extended w t) (isLocked w) (writeTime w + (t - writeTime w) / distanceSpan * distanceSpan) t
+  unfolding extended distanceSpan
   extended-word =
-      let p = word-is (isLocked w) ((t - writeTime w) % reach) (writeTime w + (t - writeTime w) / reach * reach) (omega arith) (omega arith) in
+      let d : ℕ = t - writeTime w in
+      let p = word-is (isLocked w) (d % distanceSpan) (writeTime w + d / distanceSpan * distanceSpan) (omega arith) (omega arith) in
       record { fits = p .fits; is-locked = p .is-locked; is-written = p .is-written; is-read = omega arith }
 
   pub extended-is : Is (extended w t) (isLocked w) (writeTime (extended w t)) t
@@ -117,26 +121,26 @@ module _ (w t : ℕ) (lo : writeTime w ≤ t) (hi : t ≤ top) where
       }
 
   pub extended-grows : writeTime w ≤ writeTime (extended w t)
-  unfolding reach
+  unfolding distanceSpan
   extended-grows = omega (arith, extended-word)
 
-  pub extended-near : t < writeTime w + reach → writeTime (extended w t) ≡ writeTime w
-  unfolding reach
+  pub extended-near : t < writeTime w + distanceSpan → writeTime (extended w t) ≡ writeTime w
+  unfolding distanceSpan
   extended-near h = omega (arith, extended-word)
 
-  pub extended-far : writeTime w + reach ≤ t → writeTime w < writeTime (extended w t)
-  unfolding reach
+  pub extended-far : writeTime w + distanceSpan ≤ t → writeTime w < writeTime (extended w t)
+  unfolding distanceSpan
   extended-far h = omega (arith, extended-word)
 
 -- the answers
 module _ (b : Bool) (d t : ℕ) where
-  pub packed-word : d < reach → t ≤ top → packed b d t ≡ Word (word b d t)
+  pub packed-word : d < distanceSpan → t ≤ top → packed b d t ≡ Word (joined b d t)
   unfolding packed
-  packed-word hd ht = simp (lt-ltb d reach hd, le-leb t top ht)
+  packed-word hd ht = simp (lt-ltb d distanceSpan hd, le-leb t top ht)
 
-  pub packed-far : reach ≤ d → packed b d t ≡ Refused 2
+  pub packed-far : distanceSpan ≤ d → packed b d t ≡ Refused 2
   unfolding packed
-  packed-far hd = simp (le-ltb d reach hd)
+  packed-far hd = simp (le-ltb d distanceSpan hd)
 
   pub packed-late : top < t → packed b d t ≡ Refused 2
   unfolding packed

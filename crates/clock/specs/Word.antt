@@ -15,32 +15,32 @@ unfoldable pub timeBits : ℕ
 timeBits = 48
 
 -- the distances are the numbers below this
-unfoldable pub reach : ℕ
+unfoldable pub distanceSpan : ℕ
 unfolding distanceBits
-reach = 2 ^ distanceBits
+distanceSpan = 2 ^ distanceBits
 
 -- the times are the numbers below this
-unfoldable pub span : ℕ
+unfoldable pub timeSpan : ℕ
 unfolding timeBits
-span = 2 ^ timeBits
+timeSpan = 2 ^ timeBits
 
 -- the greatest time, T
 unfoldable pub top : ℕ
-top = span - 1
+top = timeSpan - 1
 
 -- what the lock adds to a word
 unfoldable pub lockBit : ℕ
-lockBit = reach * span
+lockBit = distanceSpan * timeSpan
 
 -- a word read apart
 unfoldable pub isLocked : ℕ → Bool
 isLocked w = eqb (w / lockBit) 1
 
 unfoldable pub distance : ℕ → ℕ
-distance w = w / span % reach
+distance w = w / timeSpan % distanceSpan
 
 unfoldable pub writeTime : ℕ → ℕ
-writeTime w = w % span
+writeTime w = w % timeSpan
 
 unfoldable pub readTime : ℕ → ℕ
 readTime w = writeTime w + distance w
@@ -53,22 +53,22 @@ abbrev pub bit : Bool → ℕ
 bit true = 1
 bit false = 0
 
-unfoldable pub word : Bool → ℕ → ℕ → ℕ
-word locked d t = bit locked * lockBit + d * span + t
+unfoldable pub joined : Bool → ℕ → ℕ → ℕ
+joined locked d t = bit locked * lockBit + d * timeSpan + t
 
 -- the same word, locked or not
 unfoldable pub withLock : Bool → ℕ → ℕ
-withLock locked w = word locked (distance w) (writeTime w)
+withLock locked w = joined locked (distance w) (writeTime w)
 
 -- unlocked, with write and read time t
 unfoldable pub fresh : ℕ → ℕ
-fresh t = word false 0 t
+fresh t = joined false 0 t
 
 -- to a time not below the write time: d is the time less the write time; its low bits become the distance, the rest is added to the write time
 unfoldable pub extended : ℕ → ℕ → ℕ
 extended w t =
     let d : ℕ = t - writeTime w in
-    word (isLocked w) (d % reach) (writeTime w + d / reach * reach)
+    joined (isLocked w) (d % distanceSpan) (writeTime w + d / distanceSpan * distanceSpan)
 
 -- the answers: a word, or refusal 2
 abbrev pub wordIf : Bool → ℕ → Packed
@@ -76,7 +76,7 @@ wordIf true w = Word w
 wordIf false w = Refused 2
 
 unfoldable pub packed : Bool → ℕ → ℕ → Packed
-packed locked d t = wordIf (ltb d reach && leb t top) (word locked d t)
+packed locked d t = wordIf (ltb d distanceSpan && leb t top) (joined locked d t)
 
 unfoldable pub freshAt : ℕ → Packed
 freshAt t = wordIf (leb t top) (fresh t)

@@ -1,7 +1,7 @@
 // The clock word: lock, distance and write time in 64 bits. This crate alone knows the bits.
 ghost use mathlib.Core.Path.{_≡_};
 ghost use Prim.Native.Nat.{_<_, _≤_};
-ghost use Rattle.clock.specs.Word.{reach, top, word};
+ghost use Rattle.clock.specs.Word.{distanceSpan, top, joined};
 ghost use Rattle.clock.specs.Promises.{TopIs, LockIs, DistanceIs, WriteTimeIs, ReadTimeIs, PartsAre, PackedIs, LockedIs, UnlockedIs, FreshIs, ExtendedIs};
 
 // A word, or refusal 2 where the parts or the time are not to be had in one.
@@ -19,26 +19,26 @@ pub struct Parts {
 }
 
 // One more than the greatest distance.
-const REACH: u64 = 32768;
+const DISTANCE_SPAN: u64 = 32768;
 
 // One more than the greatest time.
-const SPAN: u64 = 281474976710656;
+const TIME_SPAN: u64 = 281474976710656;
 
-const LOCK: u64 = REACH * SPAN;
+const LOCK: u64 = DISTANCE_SPAN * TIME_SPAN;
 
 // The word of parts that fit.
 fn join(locked: bool, distance: u64, written: u64) -> u64
-    requires { ⌜ (distance < reach) × (written ≤ top) ⌝ }
-    ensures { λ r. ⌜ r ≡ word locked distance written ⌝ }
+    requires { ⌜ (distance < distanceSpan) × (written ≤ top) ⌝ }
+    ensures { λ r. ⌜ r ≡ joined locked distance written ⌝ }
 {
-    (locked as u64) * LOCK + distance * SPAN + written
+    (locked as u64) * LOCK + distance * TIME_SPAN + written
 }
 
 // The greatest time, T.
 pub fn top() -> u64
     ensures { λ r. ⌜ TopIs r ⌝ }
 {
-    SPAN - 1
+    TIME_SPAN - 1
 }
 
 pub fn is_locked(w: u64) -> bool
@@ -50,13 +50,13 @@ pub fn is_locked(w: u64) -> bool
 pub fn distance(w: u64) -> u64
     ensures { λ r. ⌜ DistanceIs w r ⌝ }
 {
-    w / SPAN % REACH
+    w / TIME_SPAN % DISTANCE_SPAN
 }
 
 pub fn write_time(w: u64) -> u64
     ensures { λ r. ⌜ WriteTimeIs w r ⌝ }
 {
-    w % SPAN
+    w % TIME_SPAN
 }
 
 pub fn read_time(w: u64) -> u64
@@ -79,10 +79,10 @@ pub fn read_apart(w: u64) -> Parts
 pub fn pack(locked: bool, distance: u64, written: u64) -> Packed
     ensures { λ r. ⌜ PackedIs locked distance written r ⌝ }
 {
-    if distance >= REACH {
+    if distance >= DISTANCE_SPAN {
         return Packed::Refused(2);
     }
-    if written >= SPAN {
+    if written >= TIME_SPAN {
         return Packed::Refused(2);
     }
     Packed::Word(join(locked, distance, written))
@@ -104,7 +104,7 @@ pub fn unlock(w: u64) -> u64
 pub fn fresh(t: u64) -> Packed
     ensures { λ r. ⌜ FreshIs t r ⌝ }
 {
-    if t >= SPAN {
+    if t >= TIME_SPAN {
         return Packed::Refused(2);
     }
     Packed::Word(join(false, 0, t))
@@ -118,9 +118,13 @@ pub fn extend(w: u64, t: u64) -> Packed
     if t < written {
         return Packed::Refused(2);
     }
-    if SPAN <= t {
+    if TIME_SPAN <= t {
         return Packed::Refused(2);
     }
     let d = t - written;
-    Packed::Word(join(is_locked(w), d % REACH, written + d / REACH * REACH))
+    Packed::Word(join(
+        is_locked(w),
+        d % DISTANCE_SPAN,
+        written + d / DISTANCE_SPAN * DISTANCE_SPAN,
+    ))
 }

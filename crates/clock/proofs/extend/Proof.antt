@@ -1,7 +1,7 @@
 -- `clock::extend` meets its contract. Assumes nothing.
 use mathlib.Core.Path.{sym}
 use Rattle.clock.specs.Laws.{extendedTo-word, extendedTo-early, extendedTo-late}
-use Rattle.clock.specs.Word.{reach, span, top, extended}
+use Rattle.clock.specs.Word.{distanceSpan, timeSpan, top, extended}
 use native.Mathlib.Omega.{arith}
 use borrow.Author.Needs.{needs}
 use Rattle.clock.proofs.extend.Statement.{statement}
@@ -14,7 +14,7 @@ returns : tie.Need-returns
 returns c = sym (extendedTo-early _ _ (omega arith))
 
 returns-2 : tie.Need-returns-2
-unfolding top span
+unfolding top timeSpan
 returns-2 c = sym (extendedTo-late _ _ (omega arith))
 
 is-locked-requires : tie.Need-is-locked-requires
@@ -27,12 +27,14 @@ add-join : tie.Need-add-join
 add-join c = search needs
 
 join-requires : tie.Need-join-requires
-unfolding reach top span
+unfolding distanceSpan top timeSpan
 join-requires c κs = omega arith
 
 returns-3 : tie.Need-returns-3
-unfolding extended reach top span
-returns-3 c = let a = c .before .before .before .before .before .args in cc (extendedTo-word (a .w) (a .t) (omega arith) (omega arith))
+unfolding extended distanceSpan top timeSpan
+returns-3 c =
+    let start : tie.Start = search in
+    cc (extendedTo-word (start .args .w) (start .args .t) (omega arith) (omega arith))
 
 pub extend-spec : {M : Type 1} → statement M
 extend-spec =

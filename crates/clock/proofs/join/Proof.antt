@@ -1,7 +1,7 @@
 -- `clock::join` meets its contract: the sum of the parts fits. Assumes nothing.
 use borrow.Author.Needs.{needs}
 use native.Mathlib.Omega.{arith}
-use Rattle.clock.specs.Word.{word, reach, span, lockBit, top}
+use Rattle.clock.specs.Word.{joined, distanceSpan, timeSpan, lockBit, top}
 use Rattle.clock.specs.Laws.{bit-small}
 use Rattle.clock.proofs.join.Statement.{statement}
 use Rattle.clock.proofs.join.Tie as tie
@@ -13,19 +13,19 @@ mul-result : tie.Need-mul-result
 mul-result c = omega (arith, bit-small (c .args .locked))
 
 mul-result-2 : tie.Need-mul-result-2
-unfolding reach
+unfolding distanceSpan
 mul-result-2 c = omega arith
 
 add-result : tie.Need-add-result
-unfolding reach
+unfolding distanceSpan
 add-result c = omega (arith, bit-small (c .args .locked))
 
 add-result-2 : tie.Need-add-result-2
-unfolding reach span top
+unfolding distanceSpan timeSpan top
 add-result-2 c = omega (arith, bit-small (c .args .locked))
 
 returns : tie.Need-returns
-unfolding word lockBit reach span
+unfolding joined lockBit distanceSpan timeSpan
 returns c = omega arith
 
 pub join-spec : {M : Type 1} → statement M
