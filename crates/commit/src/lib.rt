@@ -337,7 +337,7 @@ fn advance_in(
         LOCKING => lock_phase(words, seats, seat, head),
         CHECKING => check_phase(words, seats, seat, head),
         STORING => store_phase(values, words, seats, seat, head),
-        FREE | 5..=18446744073709551615 => Answer::Refused(3),
+        FREE | PAST_PHASES..=GREATEST => Answer::Refused(3),
     }
 }
 

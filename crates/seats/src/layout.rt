@@ -64,3 +64,9 @@ pub const LOCKING: u64 = 2;
 pub const CHECKING: u64 = 3;
 
 pub const STORING: u64 = 4;
+
+// The numbers that no phase has: from this one on.
+pub const PAST_PHASES: u64 = STORING + 1;
+
+// The greatest number of 64 bits.
+pub const GREATEST: u64 = 18446744073709551615;
