@@ -42,12 +42,12 @@ pub record Planned (seats counts : List ℕ) : Type 0 where
   pub counts-are : Counts seats counts seatCount
   pub plan-good : badPlan seats ≡ false
 
--- one of the sixteen owners, for which Open's tests are made
+-- the tests of Open are for one of the sixteen owners
 pub record ForOwner (seats counts : List ℕ) (rows : Rows) (o : ℕ) : Type 0 where
   pub census : Census seats counts rows
   pub owner-in : o < owners
 
--- its numbers, and U
+-- an owner's numbers, and U
 pub record OwnerOf (seats : List ℕ) (o s l h u : ℕ) : Type 0 where
   pub share-is : s ≡ share seats o
   pub limit-is : l ≡ limit seats o

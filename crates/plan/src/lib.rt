@@ -89,7 +89,7 @@ struct Rows {
 }
 
 fn is_bad_row(phase: u64, owner: u64) -> bool
-    ensures { λ r. ⌜ ((l : List ℕ) (s : ℕ) → RowOf l s phase owner → r ≡ badRow l s) ⌝ }
+    ensures { λ r. ⌜ ((seats : List ℕ) (s : ℕ) → RowOf seats s phase owner → r ≡ badRow seats s) ⌝ }
 {
     if STORING < phase {
         return true;
@@ -100,7 +100,7 @@ fn is_bad_row(phase: u64, owner: u64) -> bool
 // One more for the owner of a row that is not free.
 fn count(held: &mut [u64], phase: u64, owner: u64)
     requires { ⌜ getD (now held) owner 0 ≤ seatCount ⌝ }
-    ensures { λ _. ⌜ ((l : List ℕ) (s : ℕ) → RowOf l s phase owner → Counts l (now (held .entry)) s → Counts l (now (held .exit)) (s + 1)) ⌝ }
+    ensures { λ _. ⌜ ((seats : List ℕ) (s : ℕ) → RowOf seats s phase owner → Counts seats (now (held .entry)) s → Counts seats (now (held .exit)) (s + 1)) ⌝ }
 {
     if phase == FREE {
         return;
@@ -112,7 +112,7 @@ fn count(held: &mut [u64], phase: u64, owner: u64)
 // The lowest free seat so far, and this one.
 fn lowest(free: u64, seat: u64, phase: u64) -> u64
     requires { ⌜ seat < seatCount ⌝ }
-    ensures { λ r. ⌜ ((l : List ℕ) → phase ≡ phaseOf (row l seat) → Lowest l seat free → Lowest l (seat + 1) r) ⌝ }
+    ensures { λ r. ⌜ ((seats : List ℕ) → phase ≡ phaseOf (row seats seat) → Lowest seats seat free → Lowest seats (seat + 1) r) ⌝ }
 {
     if free < SEATS {
         return free;
@@ -171,14 +171,14 @@ fn claim_sum(seats: &[u64], held: &[u64]) -> u64
 }
 
 fn is_crowded(share: u64, mine: u64, claims: u64) -> bool
-    ensures { λ r. ⌜ ((l : List ℕ) (o : ℕ) → share ≡ shareOf l o → mine ≡ heldBy l o → claims ≡ claimsOf l → r ≡ crowded l o) ⌝ }
+    ensures { λ r. ⌜ ((seats : List ℕ) (o : ℕ) → share ≡ shareOf seats o → mine ≡ heldBy seats o → claims ≡ claimsOf seats → r ≡ crowded seats o) ⌝ }
 {
     share <= mine && claims == SEATS
 }
 
 // Refusals 6 and 7, from an owner's share and limit, what it holds, and U.
 fn owner_refusal(share: u64, limit: u64, mine: u64, claims: u64) -> u64
-    ensures { λ r. ⌜ ((l : List ℕ) (o : ℕ) → OwnerOf l o share limit mine claims → r ≡ ownerRefusal l o) ⌝ }
+    ensures { λ r. ⌜ ((seats : List ℕ) (o : ℕ) → OwnerOf seats o share limit mine claims → r ≡ ownerRefusal seats o) ⌝ }
 {
     if limit <= mine {
         return 6;
