@@ -1,3 +1,4 @@
 -- Laws that the proofs of this crate share.
-pub mod Pass
+pub mod Plans
+pub mod Census
 pub mod Start

@@ -1,3 +1,3 @@
--- What the code of Setup and Open is stated by, beside the rules (Tally), and what they promise (Promises).
-pub mod Tally
+-- What one pass over the rows comes to, and what the tests after it ask for (Census); what Setup and Open promise (Promises).
+pub mod Census
 pub mod Promises

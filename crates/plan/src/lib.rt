@@ -1,13 +1,13 @@
 // Setup and Open: the plan of shares and limits, the seats held under it, and the seat that is given.
 ghost use mathlib.Core.Path.{_≡_};
-ghost use mathlib.Core.Bool.{true, false, not, _||_, _&&_};
-ghost use Prim.Native.Nat.{_+_, _<_, _≤_};
-ghost use lib.Dec.{eqb, ltb, leb};
-ghost use lib.ListN.{length, getD};
+ghost use mathlib.Core.List.{List};
+ghost use Prim.Native.Nat.{ℕ, _+_, _<_, _≤_};
+ghost use lib.ListN.{getD};
 ghost use Rattle.rules.specs.Tests.{any};
-ghost use Rattle.rules.specs.Layout.{owners, seatCount, planWidth, seatsLength};
-ghost use Rattle.rules.specs.Plan.{badPlan, overLimit, claims, laid, opened};
-ghost use Rattle.plan.specs.Tally.{counted, lowest, Counts, Tallied, planRefusal, ownerRefusal};
+ghost use Rattle.rules.specs.Layout.{owners, seatCount, planWidth, row, phase as phaseOf, share as shareOf};
+ghost use Rattle.rules.specs.Lent.{lent, left};
+ghost use Rattle.rules.specs.Plan.{badPlan, laid, held as heldBy, badRow, overLimit, claims as claimsOf, crowded, ownerRefusal, planRefusal, opened};
+ghost use Rattle.plan.specs.Census.{RowOf, Counts, Lowest, Uncounted, Census, Planned, OwnerOf, ForOwner};
 ghost use Rattle.plan.specs.Promises.{SetupAnswered, OpenAnswered};
 use clock::Packed;
 use rules::Answer;
@@ -59,12 +59,9 @@ pub fn setup(
     words: &mut [u64],
     seats: &mut [u64],
     start: u64,
-    plan: &[u64; 32],
+    plan: &[u64; PLAN_WIDTH as usize],
 ) -> Answer
-    ensures { λ r. ⌜
-        SetupAnswered (now (values .entry)) (now (words .entry)) (now (seats .entry)) start (now (plan .entry))
-        r (now (words .exit)) (now (seats .exit))
-        ⌝ }
+    ensures { λ r. ⌜ SetupAnswered (lent values words seats) start (now (plan .entry)) (left r values words seats) ⌝ }
 {
     let records = words.len() as u64;
     if is_unsized(values.len() as u64, records, seats.len() as u64) {
@@ -92,7 +89,7 @@ struct Rows {
 }
 
 fn is_bad_row(phase: u64, owner: u64) -> bool
-    ensures { λ r. ⌜ r ≡ (ltb 4 phase || (not (eqb phase 0) && leb owners owner)) ⌝ }
+    ensures { λ r. ⌜ ((seats : List ℕ) (s : ℕ) → RowOf seats s phase owner → r ≡ badRow seats s) ⌝ }
 {
     if STORING < phase {
         return true;
@@ -100,9 +97,10 @@ fn is_bad_row(phase: u64, owner: u64) -> bool
     phase != FREE && OWNERS <= owner
 }
 
+// One more for the owner of a row that is not free.
 fn count(held: &mut [u64], phase: u64, owner: u64)
     requires { ⌜ getD (now held) owner 0 ≤ seatCount ⌝ }
-    ensures { λ _. ⌜ now (held .exit) ≡ counted (now (held .entry)) phase owner ⌝ }
+    ensures { λ _. ⌜ ((seats : List ℕ) (s : ℕ) → RowOf seats s phase owner → Counts seats (now (held .entry)) s → Counts seats (now (held .exit)) (s + 1)) ⌝ }
 {
     if phase == FREE {
         return;
@@ -111,8 +109,10 @@ fn count(held: &mut [u64], phase: u64, owner: u64)
     store(held, owner, n + 1);
 }
 
+// The lowest free seat so far, and this one.
 fn lowest(free: u64, seat: u64, phase: u64) -> u64
-    ensures { λ r. ⌜ r ≡ lowest free seat (eqb phase 0) ⌝ }
+    requires { ⌜ seat < seatCount ⌝ }
+    ensures { λ r. ⌜ ((seats : List ℕ) → phase ≡ phaseOf (row seats seat) → Lowest seats seat free → Lowest seats (seat + 1) r) ⌝ }
 {
     if free < SEATS {
         return free;
@@ -123,9 +123,9 @@ fn lowest(free: u64, seat: u64, phase: u64) -> u64
     free
 }
 
-fn tally(seats: &[u64], held: &mut [u64]) -> Rows
-    requires { ⌜ (length (now seats) ≡ seatsLength) × Counts (now seats) (now held) 0 ⌝ }
-    ensures { λ r. ⌜ Tallied (now (seats .entry)) (now (held .exit)) r ⌝ }
+fn take_census(seats: &[u64], held: &mut [u64]) -> Rows
+    requires { ⌜ Uncounted (now seats) (now held) ⌝ }
+    ensures { λ r. ⌜ Census (now (seats .entry)) (now (held .exit)) r ⌝ }
 {
     let mut free = SEATS;
     let mut i = 0;
@@ -158,8 +158,8 @@ fn some_over(seats: &[u64], held: &[u64]) -> bool
 
 // U: over all owners, the greater of held and share.
 fn claim_sum(seats: &[u64], held: &[u64]) -> u64
-    requires { ⌜ Counts (now seats) (now held) seatCount × (badPlan (now seats) ≡ false) ⌝ }
-    ensures { λ r. ⌜ r ≡ claims (now (seats .entry)) ⌝ }
+    requires { ⌜ Planned (now seats) (now held) ⌝ }
+    ensures { λ r. ⌜ r ≡ claimsOf (now (seats .entry)) ⌝ }
 {
     let mut sum = 0;
     let mut o = 0;
@@ -171,17 +171,15 @@ fn claim_sum(seats: &[u64], held: &[u64]) -> u64
 }
 
 fn is_crowded(share: u64, mine: u64, claims: u64) -> bool
-    ensures { λ r. ⌜ r ≡ (leb share mine && eqb claims seatCount) ⌝ }
+    ensures { λ r. ⌜ ((seats : List ℕ) (o : ℕ) → share ≡ shareOf seats o → mine ≡ heldBy seats o → claims ≡ claimsOf seats → r ≡ crowded seats o) ⌝ }
 {
     share <= mine && claims == SEATS
 }
 
+// Refusals 6 and 7, from an owner's share and limit, what it holds, and U.
 fn owner_refusal(share: u64, limit: u64, mine: u64, claims: u64) -> u64
-    ensures { λ r. ⌜ r ≡ ownerRefusal share limit mine claims ⌝ }
+    ensures { λ r. ⌜ ((seats : List ℕ) (o : ℕ) → OwnerOf seats o share limit mine claims → r ≡ ownerRefusal seats o) ⌝ }
 {
-    if SEATS < claims {
-        return 3;
-    }
     if limit <= mine {
         return 6;
     }
@@ -193,7 +191,7 @@ fn owner_refusal(share: u64, limit: u64, mine: u64, claims: u64) -> u64
 
 // Refusals 3, 6 and 7, from the rows as they were counted.
 fn plan_refusal(seats: &[u64], held: &[u64], rows: Rows, owner: u64) -> u64
-    requires { ⌜ Tallied (now seats) (now held) rows × (owner < owners) ⌝ }
+    requires { ⌜ ForOwner (now seats) (now held) rows owner ⌝ }
     ensures { λ r. ⌜ r ≡ planRefusal (now (seats .entry)) owner ⌝ }
 {
     if is_bad_plan(seats) {
@@ -205,12 +203,13 @@ fn plan_refusal(seats: &[u64], held: &[u64], rows: Rows, owner: u64) -> u64
     if some_over(seats, held) {
         return 3;
     }
-    owner_refusal(
-        at(seats, owner),
-        at(seats, LIMITS_FROM + owner),
-        at(held, owner),
-        claim_sum(seats, held),
-    )
+    let claims = claim_sum(seats, held);
+    if SEATS < claims {
+        return 3;
+    }
+    let share = at(seats, owner);
+    let limit = at(seats, LIMITS_FROM + owner);
+    owner_refusal(share, limit, at(held, owner), claims)
 }
 
 fn open_row(seats: &mut [u64], seat: u64, owner: u64)
@@ -223,7 +222,7 @@ fn open_row(seats: &mut [u64], seat: u64, owner: u64)
 
 // The lowest free seat, where the plan allows the owner one.
 pub fn open(values: &[u64], words: &[u64], seats: &mut [u64], owner: u64) -> Answer
-    ensures { λ r. ⌜ OpenAnswered (now (values .entry)) (now (words .entry)) (now (seats .entry)) owner r (now (seats .exit)) ⌝ }
+    ensures { λ r. ⌜ OpenAnswered (lent values words seats) owner (left r values words seats) ⌝ }
 {
     if is_unsized(values.len() as u64, words.len() as u64, seats.len() as u64) {
         return Answer::Refused(1);
@@ -232,7 +231,7 @@ pub fn open(values: &[u64], words: &[u64], seats: &mut [u64], owner: u64) -> Ans
         return Answer::Refused(2);
     }
     let mut held = [0u64; OWNERS as usize];
-    let rows = tally(seats, &mut held);
+    let rows = take_census(seats, &mut held);
     let why = plan_refusal(seats, &held, rows, owner);
     if why != 0 {
         return Answer::Refused(why);

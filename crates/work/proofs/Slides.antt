@@ -12,13 +12,15 @@ module _ (l : List ℕ) (s e w : ℕ) (some : 0 < w) (room : e + w ≤ rowWidth)
   slid-below : (k j : ℕ) → j + k < e → cell (slid l s e w k) s j ≡ cell l s j
   unfolding slid
   slid-below zero j h = refl
-  slid-below (suc k) j h = cell-put-field (slid l s e w k) s (e - suc k + w) (cell l s (e - suc k)) j (omega arith) (λ z. omega arith) ∙ slid-below k j (omega arith)
+  slid-below (suc k) j h =
+      cell-put-field (slid l s e w k) s (e - suc k + w) (cell l s (e - suc k)) j (omega arith) (λ z. omega arith) ∙ slid-below k j (omega arith)
 
   pub slid-none : l ≡ slid l s e w (e - e)
   unfolding slid
   slid-none = rw (let z : e - e ≡ 0 = omega arith in z)
 
-  pub slid-more : (p : ℕ) {m m′ : List ℕ} {v : ℕ} → 0 < p → p ≤ e → m ≡ slid l s e w (e - p) → v ≡ cell m s (p - 1) → m′ ≡ put m s (p - 1 + w) v → m′ ≡ slid l s e w (e - (p - 1))
+  pub slid-more : (p : ℕ) {m m′ : List ℕ} {v : ℕ} → 0 < p → p ≤ e →
+      m ≡ slid l s e w (e - p) → v ≡ cell m s (p - 1) → m′ ≡ put m s (p - 1 + w) v → m′ ≡ slid l s e w (e - (p - 1))
   unfolding slid
   slid-more p {m} {m′} {v} a b q r t =
       let n : e - (p - 1) ≡ suc (e - p) = omega arith in

@@ -1,23 +1,21 @@
--- What Read and Write promise: the answer, and what they leave of the seat table. Values and words stay as they were.
--- `NAME-one` says that the statement leaves one answer and one content, whatever the tables hold.
+-- What Read and Write promise: the answer, and what they leave of the three tables.
+-- `NAME-one` says that the statement leaves one outcome: one answer, and one content of each table.
 use Prim.Native.Nat.{ℕ}
 use mathlib.Core.Path.{_≡_}
-use mathlib.Core.List.{List}
-use Rattle.rules.specs.Tables.{tables, after}
+use Rattle.clock.specs.Promises.{one-result}
+use Rattle.rules.specs.Tables.{Tables, Outcome}
 use Rattle.rules.specs.Work.{read, write}
-use Rattle.rules.specs.declared.Answer.{Answer}
-use Rattle.seats.specs.Promises.{one-outcome}
 
-abbrev pub ReadAnswered : (values words seats : List ℕ) (owner seat item : ℕ) (r : Answer) (seats′ : List ℕ) → Type 0
-ReadAnswered values words seats owner seat item r seats′ = after r values words seats′ ≡ read (tables values words seats) owner seat item
+abbrev pub ReadAnswered : Tables → ℕ → ℕ → ℕ → Outcome → Type 0
+ReadAnswered t owner seat item x = x ≡ read t owner seat item
 
-pub ReadAnswered-one : (values words seats : List ℕ) (owner seat item : ℕ) (r q : Answer) (s s′ : List ℕ) →
-    ReadAnswered values words seats owner seat item r s → ReadAnswered values words seats owner seat item q s′ → (r ≡ q) × (s ≡ s′)
-ReadAnswered-one values words seats owner seat item r q s s′ e f = let both = one-outcome e f in (both .0, both .3)
+pub ReadAnswered-one : (t : Tables) (owner seat item : ℕ) (x y : Outcome) →
+    ReadAnswered t owner seat item x → ReadAnswered t owner seat item y → x ≡ y
+ReadAnswered-one t owner seat item x y = one-result
 
-abbrev pub WriteAnswered : (values words seats : List ℕ) (owner seat item value : ℕ) (r : Answer) (seats′ : List ℕ) → Type 0
-WriteAnswered values words seats owner seat item value r seats′ = after r values words seats′ ≡ write (tables values words seats) owner seat item value
+abbrev pub WriteAnswered : Tables → ℕ → ℕ → ℕ → ℕ → Outcome → Type 0
+WriteAnswered t owner seat item value x = x ≡ write t owner seat item value
 
-pub WriteAnswered-one : (values words seats : List ℕ) (owner seat item value : ℕ) (r q : Answer) (s s′ : List ℕ) →
-    WriteAnswered values words seats owner seat item value r s → WriteAnswered values words seats owner seat item value q s′ → (r ≡ q) × (s ≡ s′)
-WriteAnswered-one values words seats owner seat item value r q s s′ e f = let both = one-outcome e f in (both .0, both .3)
+pub WriteAnswered-one : (t : Tables) (owner seat item value : ℕ) (x y : Outcome) →
+    WriteAnswered t owner seat item value x → WriteAnswered t owner seat item value y → x ≡ y
+WriteAnswered-one t owner seat item value x y = one-result

@@ -1,37 +1,38 @@
 // Read and Write: what a seat notes while it works.
 ghost use mathlib.Core.Path.{_≡_};
-ghost use mathlib.Core.List.{List};
-ghost use Prim.Native.Nat.{ℕ, _+_, _-_, _<_, _≤_};
+ghost use Prim.Native.Nat.{_-_, _≤_};
 ghost use lib.ListN.{length};
 ghost use Rattle.rules.specs.Tests.{first as firstOf};
-ghost use Rattle.rules.specs.Layout.{mostReads, mostWrites, rowWidth, row, writeWidth, reads as readsOf, writes as writesOf};
-ghost use Rattle.rules.specs.Tables.{tables, after};
+ghost use Rattle.rules.specs.Layout.{mostWrites, row, writeWidth, reads as readsOf};
+ghost use Rattle.rules.specs.Tables.{Tables};
+ghost use Rattle.rules.specs.Lent.{lent, left, lentSeats, leftSeats};
 ghost use Rattle.rules.specs.Work.{readNoted, firstRead, readIn, above, slid, placed, writeIn};
-ghost use Rattle.seats.specs.Ready.{Ready};
+ghost use Rattle.seats.specs.Ready.{InUse};
+ghost use Rattle.work.specs.Entries.{ReadsNext, RoomAbove, WritesNext, WritesOf};
 ghost use Rattle.work.specs.Promises.{ReadAnswered, WriteAnswered};
 use rules::Answer;
+use seats::Admission;
 use seats::Head;
+use seats::admit;
 use seats::at;
 use seats::give;
-use seats::head_at;
 use seats::layout::*;
 use seats::read_of;
-use seats::refusal_of;
 use seats::row_of;
 use seats::write_of;
 
 // READ
 // A new read entry.
 fn note_read(seats: &mut [u64], seat: u64, n: u64, item: u64, value: u64, word: u64)
-    requires { ⌜ (n ≡ readsOf (row (now seats) seat)) × (n < mostReads) ⌝ }
+    requires { ⌜ ReadsNext (row (now seats) seat) n ⌝ }
     ensures { λ _. ⌜ now (seats .exit) ≡ readNoted (now (seats .entry)) seat item value word ⌝ }
 {
-    let wrote = clock::write_time(word);
-    let upto = clock::read_time(word);
+    let kept_write = clock::write_time(word);
+    let kept_read = clock::read_time(word);
     give(seats, seat, READ_ITEM + READ_WIDTH * n, item);
     give(seats, seat, READ_VALUE + READ_WIDTH * n, value);
-    give(seats, seat, KEPT_WRITE + READ_WIDTH * n, wrote);
-    give(seats, seat, KEPT_READ + READ_WIDTH * n, upto);
+    give(seats, seat, KEPT_WRITE + READ_WIDTH * n, kept_write);
+    give(seats, seat, KEPT_READ + READ_WIDTH * n, kept_read);
     give(seats, seat, READS, n + 1);
 }
 
@@ -45,7 +46,7 @@ fn first_read(
     item: u64,
 ) -> Answer
     requires { ⌜ reads ≡ readsOf (row (now seats) seat) ⌝ }
-    ensures { λ r. ⌜ after r (now (values .entry)) (now (words .entry)) (now (seats .exit)) ≡ firstRead (tables (now (values .entry)) (now (words .entry)) (now (seats .entry))) seat item ⌝ }
+    ensures { λ r. ⌜ left r values words seats ≡ firstRead (lent values words seats) seat item ⌝ }
 {
     if MOST_READS <= reads {
         return Answer::Refused(8);
@@ -67,8 +68,8 @@ fn read_in(
     head: Head,
     item: u64,
 ) -> Answer
-    requires { ⌜ Ready (row (now seats) seat) (length (now words)) head ⌝ }
-    ensures { λ r. ⌜ after r (now (values .entry)) (now (words .entry)) (now (seats .exit)) ≡ readIn (tables (now (values .entry)) (now (words .entry)) (now (seats .entry))) seat item ⌝ }
+    requires { ⌜ InUse (row (now seats) seat) (length (now words)) head ⌝ }
+    ensures { λ r. ⌜ left r values words seats ≡ readIn (lent values words seats) seat item ⌝ }
 {
     let row = row_of(seats, seat);
     let w = write_of(row, head.writes, item);
@@ -91,14 +92,14 @@ pub fn read(
     seat: u64,
     item: u64,
 ) -> Answer
-    ensures { λ r. ⌜ ReadAnswered (now (values .entry)) (now (words .entry)) (now (seats .entry)) owner seat item r (now (seats .exit)) ⌝ }
+    ensures { λ r. ⌜ ReadAnswered (lent values words seats) owner seat item (left r values words seats) ⌝ }
 {
-    let why = refusal_of(values, words, seats, owner, seat, item, WORKING);
-    if why != 0 {
-        return Answer::Refused(why);
+    let unknown = words.len() as u64 <= item;
+    let admission = admit(values, words, seats, owner, seat, unknown, WORKING);
+    match admission {
+        Admission::Refused(why) => Answer::Refused(why),
+        Admission::Ready(head) => read_in(values, words, seats, seat, head, item),
     }
-    let head = head_at(seats, seat);
-    read_in(values, words, seats, seat, head, item)
 }
 
 // WRITE
@@ -119,7 +120,7 @@ fn place_of(row: &[u64], n: u64, item: u64) -> u64
 
 // The row's numbers from place `from` to place `to` move up by one write entry, the last first.
 fn slide(seats: &mut [u64], seat: u64, from: u64, to: u64)
-    requires { ⌜ (from ≤ to) × (to + writeWidth ≤ rowWidth) ⌝ }
+    requires { ⌜ RoomAbove from to ⌝ }
     ensures { λ _. ⌜ now (seats .exit) ≡ slid (now (seats .entry)) seat to writeWidth (to - from) ⌝ }
 {
     let mut p = to;
@@ -132,7 +133,7 @@ fn slide(seats: &mut [u64], seat: u64, from: u64, to: u64)
 
 // A new write entry at place i.
 fn place(seats: &mut [u64], seat: u64, n: u64, i: u64, item: u64, value: u64)
-    requires { ⌜ (n ≡ writesOf (row (now seats) seat)) × (n < mostWrites) × (i ≤ n) ⌝ }
+    requires { ⌜ WritesNext (row (now seats) seat) n i ⌝ }
     ensures { λ _. ⌜ now (seats .exit) ≡ placed (now (seats .entry)) seat i item value ⌝ }
 {
     let from = WRITE_ITEM + WRITE_WIDTH * i;
@@ -144,8 +145,8 @@ fn place(seats: &mut [u64], seat: u64, n: u64, i: u64, item: u64, value: u64)
 }
 
 fn write_in(seats: &mut [u64], seat: u64, head: Head, item: u64, value: u64) -> Answer
-    requires { ⌜ (head .writes ≡ writesOf (row (now seats) seat)) × (head .writes ≤ mostWrites) ⌝ }
-    ensures { λ r. ⌜ ((v w : List ℕ) → after r v w (now (seats .exit)) ≡ writeIn (tables v w (now (seats .entry))) seat item value) ⌝ }
+    requires { ⌜ WritesOf (row (now seats) seat) (head .writes) ⌝ }
+    ensures { λ r. ⌜ ((t : Tables) → leftSeats t r seats ≡ writeIn (lentSeats t seats) seat item value) ⌝ }
 {
     let row = row_of(seats, seat);
     let w = write_of(row, head.writes, item);
@@ -171,12 +172,12 @@ pub fn write(
     item: u64,
     value: u64,
 ) -> Answer
-    ensures { λ r. ⌜ WriteAnswered (now (values .entry)) (now (words .entry)) (now (seats .entry)) owner seat item value r (now (seats .exit)) ⌝ }
+    ensures { λ r. ⌜ WriteAnswered (lent values words seats) owner seat item value (left r values words seats) ⌝ }
 {
-    let why = refusal_of(values, words, seats, owner, seat, item, WORKING);
-    if why != 0 {
-        return Answer::Refused(why);
+    let unknown = words.len() as u64 <= item;
+    let admission = admit(values, words, seats, owner, seat, unknown, WORKING);
+    match admission {
+        Admission::Refused(why) => Answer::Refused(why),
+        Admission::Ready(head) => write_in(seats, seat, head, item, value),
     }
-    let head = head_at(seats, seat);
-    write_in(seats, seat, head, item, value)
 }

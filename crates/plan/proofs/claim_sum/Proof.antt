@@ -3,11 +3,13 @@ use Prim.Native.Nat.{_*_, _-_, _≤_}
 use mathlib.Core.Path.{_≡_}
 use native.Mathlib.Omega.{arith}
 use borrow.Author.Needs.{needs}
+use denote.Ref.{now}
+use Rattle.rules.specs.Tests.{sumTo}
 use Rattle.rules.specs.Layout.{owners, seatCount}
 use Rattle.rules.specs.Plan.{claim, claims}
-use Rattle.rules.specs.Tests.{sumTo}
 use Rattle.seats.specs.Loops.{at-end}
-use Rattle.plan.proofs.Pass.{claim-is, claim-small, sum-more, sum-none}
+use Rattle.plan.proofs.Plans.{sum-more, sum-none}
+use Rattle.plan.proofs.Census.{claim-is, claim-small}
 use Rattle.plan.proofs.claim_sum.Statement.{statement}
 use Rattle.plan.proofs.claim_sum.Tie as tie
 
@@ -17,32 +19,26 @@ Inv-loop seats held sum₀ o₀ sum o = (o ≤ owners) × (sum ≡ sumTo (claim 
 abbrev μ-loop : tie.MeasureT-loop
 μ-loop seats held sum₀ o₀ sum o = owners - o
 
-loop-holds : tie.Need-loop-holds Inv-loop μ-loop
-loop-holds c = (omega arith, sum-none _, omega arith)
-
-at-requires : tie.Need-at-requires Inv-loop μ-loop
-at-requires c κs = search needs
-
-at-requires-2 : tie.Need-at-requires-2 Inv-loop μ-loop
-at-requires-2 c κs = search needs
-
-greater-requires : tie.Need-greater-requires Inv-loop μ-loop
-greater-requires c κs = search needs
-
-add-sum : tie.Need-add-sum Inv-loop μ-loop
-add-sum c = let e = claim-is _ (c .before .before .before .before .before .before .before .pre .0) _ (c .before .before .before .loop-test .taken) (c .before .before .at .ensures) (c .before .at2 .ensures) (c .greater .ensures) in
-    omega (arith, claim-small _ (c .before .before .before .before .before .before .before .pre .0) _ (c .before .before .before .before .before .before .before .pre .1) (c .before .before .before .loop-test .taken))
-
-add-o : tie.Need-add-o Inv-loop μ-loop
-add-o c = omega arith
-
-loop-less : tie.Need-loop-less Inv-loop μ-loop
-loop-less c = omega arith
+-- what is added is the owner's claim, and small
+claimed : (c : tie.After-greater Inv-loop μ-loop) →
+    let start : tie.Start Inv-loop μ-loop = search in
+    let at-loop : tie.At-loop Inv-loop μ-loop = search in
+    (c .greater .result ≡ claim (now (start .args .seats)) (at-loop .loop .o)) × (claim (now (start .args .seats)) (at-loop .loop .o) ≤ seatCount)
+claimed c =
+    let start : tie.Start Inv-loop μ-loop = search in
+    let at-share : tie.After-at2 Inv-loop μ-loop = c .before in
+    let at-held : tie.After-at Inv-loop μ-loop = at-share .before in
+    let in-owners = at-held .before .loop-test .taken in
+    let counts = start .pre .counts-are in (
+      claim-is _ counts _ in-owners (at-held .at .ensures) (at-share .at2 .ensures) (c .greater .ensures),
+      claim-small _ counts _ (start .pre .plan-good) in-owners,
+    )
 
 loop-again : tie.Need-loop-again Inv-loop μ-loop
-loop-again c = let i = c .before .before .before .before .loop .inv in
-    let e = claim-is _ (c .before .before .before .before .before .before .before .pre .0) _ (c .before .before .before .loop-test .taken) (c .before .before .at .ensures) (c .before .at2 .ensures) (c .greater .ensures) in
-    (omega arith, sum-more _ _ (i .1) e, omega (arith, claim-small _ (c .before .before .before .before .before .before .before .pre .0) _ (c .before .before .before .before .before .before .before .pre .1) (c .before .before .before .loop-test .taken)))
+loop-again c =
+    let at-loop : tie.At-loop Inv-loop μ-loop = search in
+    let one = claimed c in
+    (omega arith, sum-more _ _ (at-loop .loop .inv .1) (one .0), omega arith)
 
 returns : tie.Need-returns Inv-loop μ-loop
 unfolding claims
@@ -54,12 +50,12 @@ claim-sum-spec =
     (tie.spec
     Inv-loop
     μ-loop
-    loop-holds
-    at-requires
-    at-requires-2
-    greater-requires
-    add-sum
-    add-o
-    loop-less
+    (λ c. (omega arith, sum-none _, omega arith))
+    (search needs)
+    (search needs)
+    (search needs)
+    (λ c. let one = claimed c in omega arith)
+    (λ c. omega arith)
+    (λ c. omega arith)
     loop-again
     returns)

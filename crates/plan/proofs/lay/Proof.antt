@@ -7,7 +7,7 @@ use lib.ListN.{length}
 use Rattle.rules.specs.Layout.{planWidth}
 use Rattle.rules.specs.Plan.{laid}
 use Rattle.seats.specs.Loops.{at-end}
-use Rattle.plan.proofs.Pass.{laid-more, laid-none}
+use Rattle.plan.proofs.Plans.{laid-more, laid-none}
 use Rattle.plan.proofs.lay.Statement.{statement}
 use Rattle.plan.proofs.lay.Tie as tie
 
@@ -17,27 +17,14 @@ Inv-loop seats₀ plan i₀ seats i = (i ≤ planWidth) × (length seats ≡ len
 abbrev μ-loop : tie.MeasureT-loop
 μ-loop seats₀ plan i₀ seats i = planWidth - i
 
-loop-holds : tie.Need-loop-holds Inv-loop μ-loop
-loop-holds c = (omega arith, refl, laid-none _ _)
-
-at-requires : tie.Need-at-requires Inv-loop μ-loop
-at-requires c κs = search needs
-
-store-requires : tie.Need-store-requires Inv-loop μ-loop
-store-requires c κs = search needs
-
-add-i : tie.Need-add-i Inv-loop μ-loop
-add-i c = omega arith
-
-loop-less : tie.Need-loop-less Inv-loop μ-loop
-loop-less c = omega arith
-
 loop-again : tie.Need-loop-again Inv-loop μ-loop
-loop-again c = let i = c .before .before .before .before .before .before .loop .inv in
-    (omega arith, c .before .before .store .kept .0 ∙ i .1, laid-more _ _ _ (i .2) (c .before .before .before .before .at .ensures) (c .before .before .store .ensures))
-
-same-length : tie.Need-same-length Inv-loop μ-loop
-same-length c = c .before .loop .inv .1
+loop-again c =
+    let at-store : tie.After-store Inv-loop μ-loop = search in
+    let at-number : tie.After-at Inv-loop μ-loop = search (at-store) in
+    let at-loop : tie.At-loop Inv-loop μ-loop = search (at-number) in
+    let so-far = at-loop .loop .inv in
+    let more = laid-more _ _ _ (so-far .2) (at-number .at .ensures) (at-store .store .ensures) in
+    (omega arith, at-store .store .kept .0 ∙ so-far .1, more)
 
 returns : tie.Need-returns Inv-loop μ-loop
 returns c = at-end (laid _ _) _ _ (c .before .loop .inv .2) (c .before .loop .inv .0) (c .loop-test .left)
@@ -48,11 +35,11 @@ lay-spec =
     (tie.spec
     Inv-loop
     μ-loop
-    loop-holds
-    at-requires
-    store-requires
-    add-i
-    loop-less
+    (λ c. (omega arith, refl, laid-none _ _))
+    (search needs)
+    (search needs)
+    (λ c. omega arith)
+    (λ c. omega arith)
     loop-again
-    same-length
+    (λ c. c .before .loop .inv .1)
     returns)

@@ -1,80 +1,109 @@
 -- `plan::plan_refusal` meets its contract. Assumes nothing.
-use mathlib.Core.Path.{_∙_, sym}
+use Prim.Native.Nat.{ℕ}
+use mathlib.Core.Path.{_≡_, _∙_, sym}
+use mathlib.Core.Bool.{false}
+use mathlib.Core.List.{List, [], _∷_}
+use borrow.Author.Tests.{le-ltb, lt-ltb}
 use borrow.Author.Needs.{needs}
-use Rattle.rules.specs.Plan.{crowded, unsound}
-use Rattle.rules.specs.Tests.{firstOf, oneOf}
-use Rattle.plan.proofs.Pass.{held-is}
-use Rattle.plan.specs.Tally.{ownerRefusal, planRefusal}
+use denote.Ref.{now}
+use lib.Dec.{ltb}
+use Rattle.rules.specs.Tests.{any, oneOf}
+use Rattle.rules.specs.Layout.{owners, seatCount}
+use Rattle.rules.specs.Plan.{badPlan, badRow, overLimit, claims, unsound, planRefusal}
+use Rattle.plan.specs.Census.{Counts}
+use Rattle.plan.proofs.Census.{held-is}
 use Rattle.plan.proofs.plan_refusal.Statement.{statement}
 use Rattle.plan.proofs.plan_refusal.Tie as tie
 
-is-bad-plan-requires : tie.Need-is-bad-plan-requires
-is-bad-plan-requires c κs = search needs
+abbrev table : tie.Start → List ℕ
+table start = now (start .args .seats)
 
 returns : tie.Need-returns
-unfolding planRefusal unsound firstOf oneOf
-returns c = simp (c .if1 .taken, ← c .before .is-bad-plan .ensures)
+unfolding planRefusal unsound oneOf
+returns c = simp (← c .before .is-bad-plan .ensures, c .if1 .taken)
+
+-- A GOOD PLAN: the rows, the limits and U are left
+plan-good : (c : tie.Else1) → let start : tie.Start = search in badPlan (table start) ≡ false
+plan-good c = sym (c .before .is-bad-plan .ensures) ∙ c .if1 .left
+
+by-rows : (c : tie.Else1) → let start : tie.Start = search in unsound (table start)
+    ≡ oneOf (any (badRow (table start)) seatCount ∷ any (overLimit (table start)) owners ∷ ltb seatCount (claims (table start)) ∷ [])
+unfolding unsound oneOf
+by-rows c = simp (plan-good c)
 
 returns-2 : tie.Need-returns-2
-unfolding planRefusal unsound firstOf oneOf
-returns-2 c = simp (← c .before .before .before .before .before .pre .0 .bad-is, c .if2 .taken, c .before .if1 .left, ← c .before .before .is-bad-plan .ensures)
+unfolding planRefusal oneOf
+returns-2 c =
+    let start : tie.Start = search in
+    simp (by-rows (c .before), ← start .pre .census .bad-is, c .if2 .taken)
 
-some-over-requires : tie.Need-some-over-requires
-some-over-requires c κs = c .before .before .before .before .before .pre .0 .counts (c .if2 .left)
+-- NO BAD ROW: the limits and U are left, and the counts mean something
+counts-are : (c : tie.Else2) → let start : tie.Start = search in Counts (table start) (now (start .args .held)) seatCount
+counts-are c =
+    let start : tie.Start = search in
+    start .pre .census .counts-are (c .if2 .left)
+
+by-limits : (c : tie.Else2) → let start : tie.Start = search in unsound (table start)
+    ≡ oneOf (any (overLimit (table start)) owners ∷ ltb seatCount (claims (table start)) ∷ [])
+unfolding oneOf
+by-limits c =
+    let start : tie.Start = search in
+    by-rows (c .before) ∙ simp (← start .pre .census .bad-is, c .if2 .left)
 
 returns-3 : tie.Need-returns-3
-unfolding planRefusal unsound firstOf oneOf
-returns-3 c = simp (c .if3 .taken, ← c .before .some-over .ensures, ← c .before .before .before .before .before .before .before .pre .0 .bad-is, c .before .before .if2 .left, c .before .before .before .if1 .left, ← c .before .before .before .before .is-bad-plan .ensures)
+unfolding planRefusal oneOf
+returns-3 c = simp (by-limits (c .before .before), ← c .before .some-over .ensures, c .if3 .taken)
 
-at-requires : tie.Need-at-requires
-at-requires c κs = search needs
-
-add-at : tie.Need-add-at
-add-at c = search needs
-
-at-requires-2 : tie.Need-at-requires-2
-at-requires-2 c κs = search needs
-
-at-requires-3 : tie.Need-at-requires-3
-at-requires-3 c κs = search needs
-
+-- NO OWNER OVER ITS LIMIT: U is left
 claim-sum-requires : tie.Need-claim-sum-requires
-claim-sum-requires c κs = (c .before .before .before .before .before .before .before .before .before .before .pre .0 .counts (c .before .before .before .before .before .if2 .left), sym (c .before .before .before .before .before .before .before .is-bad-plan .ensures) ∙ c .before .before .before .before .before .before .if1 .left)
+claim-sum-requires c κs =
+    let good-rows : tie.Else2 = c .before .before in
+    record { counts-are = counts-are good-rows; plan-good = plan-good (good-rows .before) }
 
-owner-refusal-requires : tie.Need-owner-refusal-requires
-owner-refusal-requires c κs = search needs
+by-claims : (c : tie.After-claim-sum) → let start : tie.Start = search in unsound (table start) ≡ ltb seatCount (c .claim-sum .result)
+unfolding oneOf
+by-claims c =
+    let none-over : tie.Else3 = c .before in
+    let at-test : tie.After-some-over = none-over .before in
+    by-limits (at-test .before) ∙ simp (← at-test .some-over .ensures, none-over .if3 .left, ← c .claim-sum .ensures)
 
 returns-4 : tie.Need-returns-4
-unfolding planRefusal ownerRefusal unsound crowded firstOf oneOf
-returns-4 c = let h = c .before .before .before .before .before .before .before .before .before .before .before .before .pre in
-    simp (
-      c .owner-refusal .ensures,
-      ← c .before .claim-sum .ensures,
-      c .before .before .at3 .ensures,
-      held-is _ (h .0 .counts (c .before .before .before .before .before .before .before .if2 .left)) _ (h .1),
-      ← c .before .before .before .at2 .ensures,
-      ← c .before .before .before .before .at .ensures,
-      c .before .before .before .before .before .if3 .left,
-      ← c .before .before .before .before .before .before .some-over .ensures,
-      ← h .0 .bad-is,
-      c .before .before .before .before .before .before .before .if2 .left,
-      c .before .before .before .before .before .before .before .before .if1 .left,
-      ← c .before .before .before .before .before .before .before .before .before .is-bad-plan .ensures,
-    )
+unfolding planRefusal
+returns-4 c = simp (by-claims (c .before), lt-ltb _ _ (c .if4 .taken))
+
+-- THE PLAN IS SOUND: the owner's own numbers decide
+returns-5 : tie.Need-returns-5
+unfolding planRefusal
+returns-5 c =
+    let at-held : tie.After-at3 = c .before in
+    let at-limit : tie.After-at2 = at-held .before in
+    let at-share : tie.After-at = at-limit .before in
+    let below : tie.Else4 = at-share .before in
+    let good-rows : tie.Else2 = search (below) in
+    let start : tie.Start = search (good-rows) in
+    simp (by-claims (below .before), le-ltb _ _ (below .if4 .left))
+    (c .owner-refusal .ensures _ _
+    (record {
+      share-is = at-share .at .ensures;
+      limit-is = at-limit .at2 .ensures;
+      held-is = at-held .at3 .ensures ∙ held-is _ (counts-are good-rows) _ (start .pre .owner-in);
+      claims-is = below .before .claim-sum .ensures;
+    }))
 
 pub plan-refusal-spec : {M : Type 1} → statement M
 plan-refusal-spec =
     tie.close
     (tie.spec
-    is-bad-plan-requires
+    (search needs)
     returns
     returns-2
-    some-over-requires
+    (λ c κs. counts-are c)
     returns-3
-    at-requires
-    add-at
-    at-requires-2
-    at-requires-3
     claim-sum-requires
-    owner-refusal-requires
-    returns-4)
+    returns-4
+    (search needs)
+    (search needs)
+    (search needs)
+    (search needs)
+    (search needs)
+    returns-5)

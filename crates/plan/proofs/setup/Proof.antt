@@ -1,82 +1,76 @@
 -- `plan::setup` meets its contract. Assumes nothing.
+use mathlib.Core.Path.{_≡_, _∙_, sym}
+use mathlib.Core.Bool.{false}
 use borrow.Author.Needs.{needs}
+use denote.Ref.{now}
+use lib.ListN.{length}
+use Rattle.rules.specs.Refusals.{unsized}
 use Rattle.rules.specs.Plan.{setup, setupRefusal}
 use Rattle.plan.proofs.Start.{good-start, late-start}
 use Rattle.plan.proofs.setup.Statement.{statement}
 use Rattle.plan.proofs.setup.Tie as tie
 
-is-unsized-requires : tie.Need-is-unsized-requires
-is-unsized-requires c κs = search needs
-
 returns : tie.Need-returns
 unfolding setup setupRefusal
-returns c = simp (c .if1 .taken, ← c .before .is-unsized .ensures)
+returns c = simp (← c .before .is-unsized .ensures, c .if1 .taken)
 
-fresh-requires : tie.Need-fresh-requires
-fresh-requires c κs = search needs
-
-enum-known-word : tie.Need-enum-known-word
-enum-known-word c = search needs
-
-enum-told : tie.Need-enum-told
-enum-told c = search needs
+-- THE LENGTHS ARE RIGHT
+sized : (c : tie.Else1) → let start : tie.Start = search in
+    unsized (length (now (start .args .values))) (length (now (start .args .words))) (length (now (start .args .seats))) ≡ false
+sized c = sym (c .before .is-unsized .ensures) ∙ c .if1 .left
 
 returns-2 : tie.Need-returns-2
 unfolding setup setupRefusal
-returns-2 c = simp (late-start _ (c .before .before .fresh .ensures) (c .before .match .keys2), c .before .before .before .if1 .left, ← c .before .before .before .before .is-unsized .ensures)
+returns-2 c =
+    let above : tie.At-match-keys2 = c .before in
+    let at-fresh : tie.After-fresh = above .before in
+    simp (sized (at-fresh .before), late-start _ (at-fresh .fresh .ensures) (above .match .keys2))
 
-is-bad-plan-requires : tie.Need-is-bad-plan-requires
-is-bad-plan-requires c κs = search needs
-
+-- THE START IS NOT ABOVE T
 returns-3 : tie.Need-returns-3
 unfolding setup setupRefusal
-returns-3 c = simp (c .if2 .taken, ← c .before .is-bad-plan .ensures, good-start _ (c .before .before .before .before .before .before .fresh .ensures) (c .before .before .before .before .word .given .1) .0, c .before .before .before .before .before .before .before .if1 .left, ← c .before .before .before .before .before .before .before .before .is-unsized .ensures)
-
-fill-requires : tie.Need-fill-requires
-fill-requires c κs = search needs
-
-fill-requires-2 : tie.Need-fill-requires-2
-fill-requires-2 c κs = search needs
-
-lay-requires : tie.Need-lay-requires
-lay-requires c κs = search needs
-
-same-length : tie.Need-same-length
-same-length c = search needs
-
-same-length-2 : tie.Need-same-length-2
-same-length-2 c = search needs
+returns-3 c =
+    let at-word : tie.After-word = search in
+    let at-fresh : tie.After-fresh = at-word .before .before in
+    let started = good-start _ (at-fresh .fresh .ensures) (at-word .word .given .1) in
+    simp (sized (at-fresh .before), started .0, ← c .before .is-bad-plan .ensures, c .if2 .taken)
 
 returns-4 : tie.Need-returns-4
 unfolding setup setupRefusal
-returns-4 c = let s = good-start _ (c .before .before .before .before .before .before .before .before .before .before .before .before .before .before .before .before .before .before .before .fresh .ensures) (c .before .before .before .before .before .before .before .before .before .before .before .before .before .before .before .before .before .word .given .1) in
+returns-4 c =
+    let at-laid : tie.After-lay = search in
+    let at-free : tie.After-fill2 = search (at-laid) in
+    let at-words : tie.After-fill = search (at-free) in
+    let good-plan : tie.Else2 = search (at-words) in
+    let at-word : tie.After-word = search (good-plan) in
+    let at-fresh : tie.After-fresh = at-word .before .before in
+    let started = good-start _ (at-fresh .fresh .ensures) (at-word .word .given .1) in
     simp (
-      c .before .before .before .before .before .before .before .before .before .before .before .before .before .if2 .left,
-      ← c .before .before .before .before .before .before .before .before .before .before .before .before .before .before .is-bad-plan .ensures,
-      s .0,
-      c .before .before .before .before .before .before .before .before .before .before .before .before .before .before .before .before .before .before .before .before .if1 .left,
-      ← c .before .before .before .before .before .before .before .before .before .before .before .before .before .before .before .before .before .before .before .before .before .is-unsized .ensures,
-      c .before .before .lay .ensures,
-      c .before .before .before .before .before .before .before .fill2 .ensures,
-      c .before .before .before .before .before .before .before .before .before .before .before .fill .ensures,
-      s .1,
+      sized (at-fresh .before),
+      started .0,
+      ← good-plan .before .is-bad-plan .ensures,
+      good-plan .if2 .left,
+      at-laid .lay .ensures,
+      at-free .fill2 .ensures,
+      at-words .fill .ensures,
+      started .1,
     )
 
 pub setup-spec : {M : Type 1} → statement M
 setup-spec =
     tie.close
     (tie.spec
-    is-unsized-requires
+    (search needs)
     returns
-    fresh-requires
-    enum-known-word
-    enum-told
+    (search needs)
+    (search needs)
+    (search needs)
     returns-2
-    is-bad-plan-requires
+    (search needs)
     returns-3
-    fill-requires
-    fill-requires-2
-    lay-requires
-    same-length
-    same-length-2
+    (search needs)
+    (search needs)
+    (search needs)
+    (search needs)
+    (search needs)
     returns-4)

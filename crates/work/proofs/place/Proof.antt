@@ -6,61 +6,32 @@ use Rattle.seats.specs.Outcomes.{next}
 use Rattle.work.proofs.place.Statement.{statement}
 use Rattle.work.proofs.place.Tie as tie
 
-mul-from : tie.Need-mul-from
-mul-from c = search needs
-
-add-from : tie.Need-add-from
-add-from c = search needs
-
-mul-to : tie.Need-mul-to
-mul-to c = search needs
-
-add-to : tie.Need-add-to
-add-to c = search needs
-
-slide-requires : tie.Need-slide-requires
-slide-requires c κs = search needs
-
-give-requires : tie.Need-give-requires
-give-requires c κs = search needs
-
-mul-give : tie.Need-mul-give
-mul-give c = search needs
-
-add-give : tie.Need-add-give
-add-give c = search needs
-
-give-requires-2 : tie.Need-give-requires-2
-give-requires-2 c κs = search needs
-
-add-give-2 : tie.Need-add-give-2
-add-give-2 c = search needs
-
-give-requires-3 : tie.Need-give-requires-3
-give-requires-3 c κs = search needs
-
-same-length : tie.Need-same-length
-same-length c = search needs
-
 returns : tie.Need-returns
 unfolding placed
-returns c = simp (← c .before .before .before .before .before .before .before .before .before .before .before .before .before .before .before .before .before .pre .0)
-    (next _ _ _ (c .before .before .give3 .ensures) (next _ _ _ (c .before .before .before .before .before .before .give2 .ensures) (next _ _ _ (c .before .before .before .before .before .before .before .before .before .before .give .ensures) (c .before .before .before .before .before .before .before .before .before .before .before .before .before .before .slide .ensures) refl) refl) refl)
+returns c =
+    let at-count : tie.After-give3 = search in
+    let at-value : tie.After-give2 = search (at-count) in
+    let at-item : tie.After-give = search (at-value) in
+    let at-slid : tie.After-slide = search (at-item) in
+    let start : tie.Start = search (at-slid) in
+    let named = next _ _ _ (at-item .give .ensures) (at-slid .slide .ensures) refl in
+    let valued = next _ _ _ (at-value .give2 .ensures) named refl in
+    simp (← start .pre .count-is) (next _ _ _ (at-count .give3 .ensures) valued refl)
 
 pub place-spec : {M : Type 1} → statement M
 place-spec =
     tie.close
     (tie.spec
-    mul-from
-    add-from
-    mul-to
-    add-to
-    slide-requires
-    give-requires
-    mul-give
-    add-give
-    give-requires-2
-    add-give-2
-    give-requires-3
-    same-length
+    (search needs)
+    (search needs)
+    (search needs)
+    (search needs)
+    (search needs)
+    (search needs)
+    (search needs)
+    (search needs)
+    (search needs)
+    (search needs)
+    (search needs)
+    (search needs)
     returns)

@@ -2,8 +2,8 @@
 use Prim.Native.Nat.{_-_}
 use mathlib.Core.Path.{sym}
 use native.Mathlib.Omega.{arith}
-use borrow.Author.Needs.{needs}
 use borrow.Author.Tests.{le-ltb, lt-ltb}
+use borrow.Author.Needs.{needs}
 use Rattle.rules.specs.Work.{above}
 use Rattle.rows.specs.Search.{Passed, found-first, found-none, passed-more, passed-none}
 use Rattle.work.proofs.place_of.Statement.{statement}
@@ -15,34 +15,19 @@ Inv-loop row n item i₀ i = Passed (above row item) n i
 abbrev μ-loop : tie.MeasureT-loop
 μ-loop row n item i₀ i = n - i
 
-loop-holds : tie.Need-loop-holds Inv-loop μ-loop
-loop-holds c = passed-none _ _
-
-mul-at : tie.Need-mul-at Inv-loop μ-loop
-mul-at c = omega arith
-
-add-at : tie.Need-add-at Inv-loop μ-loop
-add-at c = omega arith
-
-at-requires : tie.Need-at-requires Inv-loop μ-loop
-at-requires c κs = search needs
-
 returns : tie.Need-returns Inv-loop μ-loop
 unfolding above
-returns c = sym (found-first _ _ _ (c .before .before .before .loop .inv) (c .before .before .loop-test .taken) (simp (← c .before .at .ensures, lt-ltb _ _ (c .if1 .taken))))
-
-add-i : tie.Need-add-i Inv-loop μ-loop
-add-i c = omega arith
-
-loop-less : tie.Need-loop-less Inv-loop μ-loop
-loop-less c = omega arith
+returns c =
+    let at-item : tie.After-at Inv-loop μ-loop = c .before in
+    let in-loop : tie.In-loop Inv-loop μ-loop = at-item .before in
+    sym (found-first _ _ _ (in-loop .before .loop .inv) (in-loop .loop-test .taken) (simp (← at-item .at .ensures, lt-ltb _ _ (c .if1 .taken))))
 
 loop-again : tie.Need-loop-again Inv-loop μ-loop
 unfolding above
-loop-again c = passed-more _ _ _ (c .before .before .before .loop .inv) (c .before .before .loop-test .taken) (simp (← c .before .at .ensures, le-ltb _ _ (c .if1 .left)))
-
-returns-2 : tie.Need-returns-2 Inv-loop μ-loop
-returns-2 c = sym (found-none _ _ _ (c .before .loop .inv) (c .loop-test .left))
+loop-again c =
+    let at-item : tie.After-at Inv-loop μ-loop = c .before in
+    let in-loop : tie.In-loop Inv-loop μ-loop = at-item .before in
+    passed-more _ _ _ (in-loop .before .loop .inv) (in-loop .loop-test .taken) (simp (← at-item .at .ensures, le-ltb _ _ (c .if1 .left)))
 
 pub place-of-spec : {M : Type 1} → statement M
 place-of-spec =
@@ -50,12 +35,12 @@ place-of-spec =
     (tie.spec
     Inv-loop
     μ-loop
-    loop-holds
-    mul-at
-    add-at
-    at-requires
+    (λ c. passed-none _ _)
+    (λ c. omega arith)
+    (λ c. omega arith)
+    (search needs)
     returns
-    add-i
-    loop-less
+    (λ c. omega arith)
+    (λ c. omega arith)
     loop-again
-    returns-2)
+    (λ c. sym (found-none _ _ _ (c .before .loop .inv) (c .loop-test .left))))

@@ -1,43 +1,41 @@
 -- `work::read` meets its contract. Assumes nothing.
 use mathlib.Core.Path.{_∙_, sym}
 use borrow.Author.Needs.{needs}
-use borrow.Author.Tests.{eq-eqb, ne-eqb}
 use Rattle.rules.specs.Work.{read}
-use Rattle.seats.specs.Ready.{ready}
+use Rattle.seats.specs.Ready.{in-use, ready-call, refused-call}
 use Rattle.work.proofs.read.Statement.{statement}
 use Rattle.work.proofs.read.Tie as tie
 
-refusal-of-requires : tie.Need-refusal-of-requires
-refusal-of-requires c κs = search needs
-
-same-length : tie.Need-same-length
-same-length c = search needs
-
 returns : tie.Need-returns
 unfolding read
-returns c = simp (ne-eqb _ _ (c .if1 .taken), ← c .before .refusal-of .ensures)
-
-head-at-requires : tie.Need-head-at-requires
-head-at-requires c κs = search needs
+returns c =
+    let refused : tie.After-admission = c .before in
+    let at-admit : tie.After-admit = refused .before .before in
+    refused-call _ _ _ _ _ (sym (at-admit .admit .ensures) ∙ refused .admission .given .1)
 
 read-in-requires : tie.Need-read-in-requires
-read-in-requires c κs = ready _ _ _ _ _ (sym (c .before .before .before .before .refusal-of .ensures) ∙ c .before .before .before .if1 .left) (c .before .head-at .ensures)
-
-same-length-2 : tie.Need-same-length-2
-same-length-2 c = search needs
+read-in-requires c κs =
+    let ready : tie.After-admission2 = search in
+    let at-admit : tie.After-admit = ready .before .before in
+    in-use _ _ _ _ _ _ (sym (at-admit .admit .ensures) ∙ ready .admission2 .given .1)
 
 returns-2 : tie.Need-returns-2
 unfolding read
-returns-2 c = simp (eq-eqb _ _ (c .before .before .before .before .before .before .if1 .left), ← c .before .before .before .before .before .before .before .refusal-of .ensures) (c .before .before .read-in .ensures)
+returns-2 c =
+    let at-read-in : tie.After-read-in = search in
+    let ready : tie.After-admission2 = search (at-read-in) in
+    let at-admit : tie.After-admit = ready .before .before in
+    at-read-in .read-in .ensures ∙ sym (ready-call _ _ _ _ _ _ (sym (at-admit .admit .ensures) ∙ ready .admission2 .given .1) _)
 
 pub read-spec : {M : Type 1} → statement M
 read-spec =
     tie.close
     (tie.spec
-    refusal-of-requires
-    same-length
-    returns
-    head-at-requires
+    (search needs)
+    (search needs)
+    (search needs)
     read-in-requires
-    same-length-2
+    (search needs)
+    returns
+    (search needs)
     returns-2)

@@ -1,80 +1,101 @@
 -- `work::read_in` meets its contract. Assumes nothing.
+use Prim.Native.Nat.{ℕ}
+use mathlib.Core.Path.{_≡_}
+use mathlib.Core.List.{List}
 use native.Mathlib.Omega.{arith}
-use borrow.Author.Needs.{needs}
 use borrow.Author.Tests.{le-ltb, lt-ltb}
-use Rattle.rules.specs.Work.{readIn}
-use Rattle.seats.specs.Outcomes.{read-of, write-of}
+use borrow.Author.Needs.{needs}
+use denote.Ref.{now}
+use Rattle.rules.specs.Layout.{row}
+use Rattle.rules.specs.Work.{readIn, readOf, writeOf}
+use Rattle.seats.specs.Outcomes.{entry-at, read-of, write-of}
 use Rattle.work.proofs.read_in.Statement.{statement}
 use Rattle.work.proofs.read_in.Tie as tie
 
-row-of-requires : tie.Need-row-of-requires
-row-of-requires c κs = search needs
+abbrev g : tie.Start → List ℕ
+g start = row (now (start .args .seats)) (start .args .seat)
 
-write-of-requires : tie.Need-write-of-requires
-write-of-requires c κs = search needs
+-- the write entry, and the read entry, are those that the rules find
+write-is : (c : tie.After-write-of) → let start : tie.Start = search in writeOf (g start) (start .args .item) ≡ c .write-of .result
+write-is c =
+    let start : tie.Start = search in
+    write-of (c .before .row-of .ensures) _ (start .pre .head .writes-is) (omega arith) (c .write-of .ensures)
 
-mul-at : tie.Need-mul-at
-mul-at c = search needs
-
-add-at : tie.Need-add-at
-add-at c = search needs
-
-at-requires : tie.Need-at-requires
-at-requires c κs = search needs
-
-same-length : tie.Need-same-length
-same-length c = search needs
+read-is : (c : tie.After-read-of) → let start : tie.Start = search in readOf (g start) (start .args .item) ≡ c .read-of .result
+read-is c =
+    let at-row : tie.After-row-of = search in
+    let start : tie.Start = search (at-row) in
+    read-of (at-row .row-of .ensures) _ (start .pre .head .reads-is) (omega arith) (c .read-of .ensures)
 
 returns : tie.Need-returns
 unfolding readIn
-returns c = simp (write-of (c .before .before .before .before .row-of .ensures) _ (c .before .before .before .before .before .before .before .before .before .pre .head .writes-is) (omega arith) (c .before .before .before .write-of .ensures), ← c .before .before .before .before .before .before .before .before .before .pre .head .writes-is, lt-ltb _ _ (c .before .if1 .taken), c .at .ensures, c .before .before .before .before .row-of .ensures)
-
-read-of-requires : tie.Need-read-of-requires
-read-of-requires c κs = search needs
-
-mul-at-2 : tie.Need-mul-at-2
-mul-at-2 c = search needs
-
-add-at-2 : tie.Need-add-at-2
-add-at-2 c = search needs
-
-at-requires-2 : tie.Need-at-requires-2
-at-requires-2 c κs = search needs
-
-same-length-2 : tie.Need-same-length-2
-same-length-2 c = search needs
+returns c =
+    let written : tie.Then1 = search in
+    let at-write : tie.After-write-of = search (written) in
+    let at-row : tie.After-row-of = at-write .before in
+    let start : tie.Start = search (at-row) in
+    simp (
+      write-is at-write,
+      ← start .pre .head .writes-is,
+      lt-ltb _ _ (written .if1 .taken),
+      entry-at (at-row .row-of .ensures) _ (c .at .ensures),
+    )
 
 returns-2 : tie.Need-returns-2
 unfolding readIn
-returns-2 c = simp (write-of (c .before .before .before .before .before .before .before .row-of .ensures) _ (c .before .before .before .before .before .before .before .before .before .before .before .before .pre .head .writes-is) (omega arith) (c .before .before .before .before .before .before .write-of .ensures), ← c .before .before .before .before .before .before .before .before .before .before .before .before .pre .head .writes-is, le-ltb _ _ (c .before .before .before .before .if1 .left), read-of (c .before .before .before .before .before .before .before .row-of .ensures) _ (c .before .before .before .before .before .before .before .before .before .before .before .before .pre .head .reads-is) (omega arith) (c .before .before .before .read-of .ensures), ← c .before .before .before .before .before .before .before .before .before .before .before .before .pre .head .reads-is, lt-ltb _ _ (c .before .if2 .taken), c .at2 .ensures, c .before .before .before .before .before .before .before .row-of .ensures)
-
-first-read-requires : tie.Need-first-read-requires
-first-read-requires c κs = search needs
-
-same-length-3 : tie.Need-same-length-3
-same-length-3 c = search needs
+returns-2 c =
+    let found : tie.Then2 = search in
+    let at-read : tie.After-read-of = search (found) in
+    let unwritten : tie.Else1 = at-read .before in
+    let at-write : tie.After-write-of = search (unwritten) in
+    let at-row : tie.After-row-of = at-write .before in
+    let start : tie.Start = search (at-row) in
+    simp (
+      write-is at-write,
+      ← start .pre .head .writes-is,
+      le-ltb _ _ (unwritten .if1 .left),
+      read-is at-read,
+      ← start .pre .head .reads-is,
+      lt-ltb _ _ (found .if2 .taken),
+      entry-at (at-row .row-of .ensures) _ (c .at2 .ensures),
+    )
 
 returns-3 : tie.Need-returns-3
 unfolding readIn
-returns-3 c = simp (write-of (c .before .before .before .before .before .before .before .before .before .before .row-of .ensures) _ (c .before .before .before .before .before .before .before .before .before .before .before .before .before .before .before .pre .head .writes-is) (omega arith) (c .before .before .before .before .before .before .before .before .before .write-of .ensures), ← c .before .before .before .before .before .before .before .before .before .before .before .before .before .before .before .pre .head .writes-is, le-ltb _ _ (c .before .before .before .before .before .before .before .if1 .left), read-of (c .before .before .before .before .before .before .before .before .before .before .row-of .ensures) _ (c .before .before .before .before .before .before .before .before .before .before .before .before .before .before .before .pre .head .reads-is) (omega arith) (c .before .before .before .before .before .before .read-of .ensures), ← c .before .before .before .before .before .before .before .before .before .before .before .before .before .before .before .pre .head .reads-is, le-ltb _ _ (c .before .before .before .before .if2 .left)) (c .before .before .first-read .ensures)
+returns-3 c =
+    let at-first : tie.After-first-read = search in
+    let unread : tie.Else2 = search (at-first) in
+    let at-read : tie.After-read-of = search (unread) in
+    let unwritten : tie.Else1 = at-read .before in
+    let at-write : tie.After-write-of = search (unwritten) in
+    let start : tie.Start = search (at-write) in
+    simp (
+      write-is at-write,
+      ← start .pre .head .writes-is,
+      le-ltb _ _ (unwritten .if1 .left),
+      read-is at-read,
+      ← start .pre .head .reads-is,
+      le-ltb _ _ (unread .if2 .left),
+    )
+    (at-first .first-read .ensures)
 
 pub read-in-spec : {M : Type 1} → statement M
 read-in-spec =
     tie.close
     (tie.spec
-    row-of-requires
-    write-of-requires
-    mul-at
-    add-at
-    at-requires
-    same-length
+    (search needs)
+    (search needs)
+    (search needs)
+    (search needs)
+    (search needs)
+    (search needs)
     returns
-    read-of-requires
-    mul-at-2
-    add-at-2
-    at-requires-2
-    same-length-2
+    (search needs)
+    (search needs)
+    (search needs)
+    (search needs)
+    (search needs)
     returns-2
-    first-read-requires
-    same-length-3
+    (search needs)
+    (search needs)
     returns-3)

@@ -2,43 +2,49 @@
 use mathlib.Core.Path.{_∙_, sym}
 use native.Mathlib.Omega.{arith}
 use borrow.Author.Needs.{needs}
-use borrow.Author.Tests.{eq-eqb, ne-eqb}
+use denote.Ref.{now}
+use Rattle.rules.specs.Tables.{Tables, tables}
 use Rattle.rules.specs.Work.{write}
-use Rattle.seats.specs.Ready.{ready}
+use Rattle.seats.specs.Ready.{in-use, ready-call, refused-call}
 use Rattle.work.proofs.write.Statement.{statement}
 use Rattle.work.proofs.write.Tie as tie
 
-refusal-of-requires : tie.Need-refusal-of-requires
-refusal-of-requires c κs = search needs
-
-same-length : tie.Need-same-length
-same-length c = search needs
+-- the tables that the call is lent
+abbrev found : tie.Start → Tables
+found start = tables (now (start .args .values)) (now (start .args .words)) (now (start .args .seats))
 
 returns : tie.Need-returns
 unfolding write
-returns c = simp (ne-eqb _ _ (c .if1 .taken), ← c .before .refusal-of .ensures)
-
-head-at-requires : tie.Need-head-at-requires
-head-at-requires c κs = search needs
+returns c =
+    let refused : tie.After-admission = c .before in
+    let at-admit : tie.After-admit = refused .before .before in
+    refused-call _ _ _ _ _ (sym (at-admit .admit .ensures) ∙ refused .admission .given .1)
 
 write-in-requires : tie.Need-write-in-requires
-write-in-requires c κs = let r = ready _ _ _ _ _ (sym (c .before .before .before .before .refusal-of .ensures) ∙ c .before .before .before .if1 .left) (c .before .head-at .ensures) in (r .head .writes-is, omega arith)
-
-same-length-2 : tie.Need-same-length-2
-same-length-2 c = search needs
+write-in-requires c κs =
+    let ready : tie.After-admission2 = search in
+    let at-admit : tie.After-admit = ready .before .before in
+    let used = in-use _ _ _ _ _ _ (sym (at-admit .admit .ensures) ∙ ready .admission2 .given .1) in
+    record { count-is = used .head .writes-is; few = omega arith }
 
 returns-2 : tie.Need-returns-2
 unfolding write
-returns-2 c = simp (eq-eqb _ _ (c .before .before .before .before .before .before .if1 .left), ← c .before .before .before .before .before .before .before .refusal-of .ensures) (c .before .before .write-in .ensures _ _)
+returns-2 c =
+    let at-write-in : tie.After-write-in = search in
+    let ready : tie.After-admission2 = search (at-write-in) in
+    let at-admit : tie.After-admit = ready .before .before in
+    let start : tie.Start = search (at-admit) in
+    at-write-in .write-in .ensures (found start) ∙ sym (ready-call _ _ _ _ _ _ (sym (at-admit .admit .ensures) ∙ ready .admission2 .given .1) _)
 
 pub write-spec : {M : Type 1} → statement M
 write-spec =
     tie.close
     (tie.spec
-    refusal-of-requires
-    same-length
-    returns
-    head-at-requires
+    (search needs)
+    (search needs)
+    (search needs)
     write-in-requires
-    same-length-2
+    (search needs)
+    returns
+    (search needs)
     returns-2)
