@@ -22,16 +22,16 @@ use Rattle.rows.specs.Fine.{cond-ind, Fine, fine}
 use Rattle.rows.specs.Becomes.{row-past}
 use Rattle.rows.specs.Begin.{begun, setup-ready, length-laid, laid-row}
 use Rattle.serial.specs.Statement.{Observer, Values, nothing, begins, observe, observed, AllStored, valuesOf, Serializable, NoSetup, SomeSetup, SerialOrder, openingFrom, SinceLastSetup, allPlaced}
-use Rattle.serial.specs.Protocol.{Left}
-use Rattle.serial.specs.Final.{begin, begin-inv, inv-final}
-use Rattle.serial.specs.Segments.{seg-in}
-use Rattle.serial.specs.View.{readAt, writeAt, seatOf, view}
-use Rattle.serial.specs.Agree.{Good, Ok, refused, unless-ok, sized-same}
-use Rattle.serial.specs.Release.{drop-ok}
-use Rattle.serial.specs.Working.{open-ok, read-ok, write-ok}
-use Rattle.serial.specs.Locking.{lock-ok}
-use Rattle.serial.specs.Checking.{check-phase-ok}
-use Rattle.serial.specs.Storing.{store-phase-ok}
+use Rattle.serial.proofs.Protocol.{Left}
+use Rattle.serial.proofs.Final.{begin, begin-inv, inv-final}
+use Rattle.serial.proofs.Segments.{seg-in}
+use Rattle.serial.proofs.View.{readAt, writeAt, seatOf, view}
+use Rattle.serial.proofs.Agree.{Good, Ok, refused, unless-ok, sized-same}
+use Rattle.serial.proofs.Release.{drop-ok}
+use Rattle.serial.proofs.Working.{open-ok, read-ok, write-ok}
+use Rattle.serial.proofs.Locking.{lock-ok}
+use Rattle.serial.proofs.Checking.{check-phase-ok}
+use Rattle.serial.proofs.Storing.{store-phase-ok}
 
 -- SETUP that is not refused
 setup-good : (t : Tables) (start : ℕ) (plan : List ℕ) → setupRefusal t start plan ≡ 0 →

@@ -21,13 +21,13 @@ use Rattle.rows.specs.FreeSeat.{seat-found}
 use Rattle.rows.specs.Changed.{openedRow, notedRow, noted-row, placedRow, placed-row}
 use Rattle.rows.specs.Becomes.{Becomes, becomes-put, becomes-opened, becomes-noted, becomes-placed}
 use Rattle.serial.specs.Statement.{FirstRead, WriteEntry, Seen, Observer, Values, unseen, seeing, isRead, isWritten, isKnown, onRead, renewed, inserted, onWrite, observe}
-use Rattle.serial.specs.Protocol.{working, changed-none}
-use Rattle.serial.specs.Seal.{told}
-use Rattle.serial.specs.Steps.{reseat, entryOf, opens, reads as step-reads, rests}
-use Rattle.serial.specs.Segments.{seg, has-any, seg-map}
-use Rattle.serial.specs.View.{readAt, writeAt, readEntries, writeEntries, seatOf, view-working, noted-readEntries, noted-writeEntries}
-use Rattle.serial.specs.Folds.{SameFront, front-reads, renewed-front, renewed-writes, placed-front, placed-writes}
-use Rattle.serial.specs.Agree.{Shown, SeenOk, Good, Ok, refused, unless-ok, agree-seeing}
+use Rattle.serial.proofs.Protocol.{working, changed-none}
+use Rattle.serial.proofs.Seal.{told}
+use Rattle.serial.proofs.Steps.{reseat, entryOf, opens, reads as step-reads, rests}
+use Rattle.serial.proofs.Segments.{seg, has-any, seg-map}
+use Rattle.serial.proofs.View.{readAt, writeAt, readEntries, writeEntries, seatOf, view-working, noted-readEntries, noted-writeEntries}
+use Rattle.serial.proofs.Folds.{SameFront, front-reads, renewed-front, renewed-writes, placed-front, placed-writes}
+use Rattle.serial.proofs.Agree.{Shown, SeenOk, Good, Ok, refused, unless-ok, agree-seeing}
 
 or-left : (a b : Bool) → a ≡ true → a || b ≡ true
 or-left a b e = rw e

@@ -15,8 +15,8 @@ use Rattle.rules.specs.Work.{writeNames, writeOf, above, placeOf}
 use Rattle.rows.specs.Search.{first-le}
 use Rattle.rows.specs.Changed.{Placed}
 use Rattle.serial.specs.Statement.{WriteEntry, folded, renewed, inserted}
-use Rattle.serial.specs.Segments.{seg, seg-ext}
-use Rattle.serial.specs.View.{readAt, writeAt, readEntries, writeEntries, read-same, write-same}
+use Rattle.serial.proofs.Segments.{seg, seg-ext}
+use Rattle.serial.proofs.View.{readAt, writeAt, readEntries, writeEntries, read-same, write-same}
 
 -- LISTS
 scan-ge : (p : ℕ → Bool) (n i : ℕ) → i ≤ scan p i n

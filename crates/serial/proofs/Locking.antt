@@ -19,13 +19,13 @@ use Rattle.rows.specs.Changed.{movedRow, not-nudged, nudge-phase, nudge-positio
 use Rattle.rows.specs.Becomes.{then-put, becomes-moved}
 use Rattle.rules.specs.CommitTime.{commit-kept, commit-above}
 use Rattle.serial.specs.Statement.{WriteEntry, Observer, Values, changed, seeing, onTimed, onAdvance, observe}
-use Rattle.serial.specs.Protocol.{Stamp, ReadEntry, working, checking, Fits, Below}
-use Rattle.serial.specs.Versions.{withHolder}
-use Rattle.serial.specs.Steps.{reseat, reversion, locks, times}
-use Rattle.serial.specs.Segments.{seg, seg-more, seg-whole, seg-in}
-use Rattle.serial.specs.View.{readAt, writeAt, readEntries, writeEntries, seatOf, view-early, nudged-view}
-use Rattle.serial.specs.Agree.{Shown, Good, Ok, shown-set, seen-nudged, agree-same, agree-seeing}
-use Rattle.serial.specs.Release.{shown-lock, abort-ok}
+use Rattle.serial.proofs.Protocol.{Stamp, ReadEntry, working, checking, Fits, Below}
+use Rattle.serial.proofs.Versions.{withHolder}
+use Rattle.serial.proofs.Steps.{reseat, reversion, locks, times}
+use Rattle.serial.proofs.Segments.{seg, seg-more, seg-whole, seg-in}
+use Rattle.serial.proofs.View.{readAt, writeAt, readEntries, writeEntries, seatOf, view-early, nudged-view}
+use Rattle.serial.proofs.Agree.{Shown, Good, Ok, shown-set, seen-nudged, agree-same, agree-seeing}
+use Rattle.serial.proofs.Release.{shown-lock, abort-ok}
 
 module _ (opening : Values) (t : Tables) (b : Observer) (g : Good opening t b) (o k last : ℕ) (fi : Fine t o k 0 last) (phase12 : phase (row (t .seats) k) ≤ 2) where
   abbrev gr : List ℕ

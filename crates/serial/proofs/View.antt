@@ -8,8 +8,8 @@ use lib.ListN.{getD}
 use Rattle.rules.specs.Layout.{mostReads, readsAt, writesAt, timeAt, readItemAt, readValueAt, keptWriteAt, keptReadAt, writeItemAt, writeValueAt, phase, position, reads, writes, time, readItem, readValue, keptWrite, keptRead, writeItem, writeValue}
 use Rattle.rows.specs.Changed.{Nudged, Noted}
 use Rattle.serial.specs.Statement.{WriteEntry}
-use Rattle.serial.specs.Protocol.{ReadEntry, Seat, free, working, checking, storing}
-use Rattle.serial.specs.Segments.{seg, seg-ext, seg-more}
+use Rattle.serial.proofs.Protocol.{ReadEntry, Seat, free, working, checking, storing}
+use Rattle.serial.proofs.Segments.{seg, seg-ext, seg-more}
 
 -- ENTRIES
 abbrev pub readAt : List ℕ → ℕ → ReadEntry

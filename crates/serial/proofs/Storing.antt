@@ -18,12 +18,12 @@ use Rattle.rows.specs.Fine.{cond-ind, write-item, time-top, Fine, fine-row}
 use Rattle.rows.specs.Changed.{freeRow, Nudged, not-nudged, nudge-position}
 use Rattle.rows.specs.Becomes.{becomes-put, becomes-freed}
 use Rattle.serial.specs.Statement.{Observer, Values, changed, seeing, applied, onStored, onAdvance, observe}
-use Rattle.serial.specs.Protocol.{Stamp, free, storing}
-use Rattle.serial.specs.Versions.{stored}
-use Rattle.serial.specs.Steps.{reseat, reversion, stores, finishes}
-use Rattle.serial.specs.Segments.{seg, seg-next, seg-end}
-use Rattle.serial.specs.View.{writeAt, seatOf, view-storing, nudged-view}
-use Rattle.serial.specs.Agree.{Shown, SeenOk, Good, stampAt, keyed-at, Ok, shown-set, seen-nudged, agree-same, agree-seeing}
+use Rattle.serial.proofs.Protocol.{Stamp, free, storing}
+use Rattle.serial.proofs.Versions.{stored}
+use Rattle.serial.proofs.Steps.{reseat, reversion, stores, finishes}
+use Rattle.serial.proofs.Segments.{seg, seg-next, seg-end}
+use Rattle.serial.proofs.View.{writeAt, seatOf, view-storing, nudged-view}
+use Rattle.serial.proofs.Agree.{Shown, SeenOk, Good, stampAt, keyed-at, Ok, shown-set, seen-nudged, agree-same, agree-seeing}
 
 module _ (opening : Values) (t : Tables) (b : Observer) (g : Good opening t b) (o k last : ℕ) (fi : Fine t o k 0 last) (four : phase (row (t .seats) k) ≡ 4) where
   abbrev gr : List ℕ

@@ -20,9 +20,9 @@ use Rattle.rows.specs.Fine.{cond-ind, Sized}
 use Rattle.rows.specs.Changed.{Nudged}
 use Rattle.rows.specs.Becomes.{Becomes}
 use Rattle.serial.specs.Statement.{Transaction, Seen, Observer, Values, changed, seeing, onAdvance, begins, observe, serial}
-use Rattle.serial.specs.Protocol.{Stamp, Version, Seat, State, Inv, changed-same, changed-other, changed-ind}
-use Rattle.serial.specs.Seal.{told}
-use Rattle.serial.specs.View.{readEntries, writeEntries, view, nudged-writes, nudged-readEntries, nudged-writeEntries}
+use Rattle.serial.proofs.Protocol.{Stamp, Version, Seat, State, Inv, changed-same, changed-other, changed-ind}
+use Rattle.serial.proofs.Seal.{told}
+use Rattle.serial.proofs.View.{readEntries, writeEntries, view, nudged-writes, nudged-readEntries, nudged-writeEntries}
 
 -- a record's value and word show its version
 pub record Shown (x : Version) (v word : ℕ) : Type 0 where

@@ -7,8 +7,9 @@ use mathlib.Core.List.{List, [], _∷_, List·Memᴰ as In, List·Memᴰ·not-ni
 use native.Mathlib.Omega.{arith}
 use Rattle.serial.specs.Statement.{Transaction, Values, outcome, Right}
 use Rattle.serial.specs.Order.{Sorted}
-use Rattle.serial.specs.Timeline.{upto, upto-all}
-use Rattle.serial.specs.Protocol.{Due, State, free, Left, none-some, val, Inv, due-left}
+use Rattle.serial.proofs.Timeline.{upto, upto-all}
+use Rattle.serial.proofs.Protocol.{Due, State, free, Left, none-some, val, Inv}
+use Rattle.serial.proofs.Growth.{due-left}
 
 -- nothing sealed, every version from the start on, every seat free
 abbrev pub begin : ℕ → Values → State

@@ -11,7 +11,8 @@ use borrow.Author.Tests.{eq-eqb, ne-eqb, le-leb, lt-leb}
 use lib.Dec.{leb}
 use Rattle.rows.specs.Fine.{cond-ind}
 use Rattle.serial.specs.Statement.{FirstRead, WriteEntry, Transaction, Values, applied, written, after, outcome, Right, before, placed}
-use Rattle.serial.specs.Order.{Sorted, all-later, before-yes, before-no}
+use Rattle.serial.specs.Order.{Sorted}
+use Rattle.serial.proofs.Order.{all-later, before-yes, before-no}
 
 -- WRITE ENTRIES: one names the record, or none does; and no two name the same
 abbrev pub Named : ℕ → List WriteEntry → Type 0

@@ -5,7 +5,8 @@ use mathlib.Core.Option.{Option, none, some}
 use mathlib.Core.List.{List}
 use native.Mathlib.Omega.{arith}
 use Rattle.serial.specs.Statement.{WriteEntry, Transaction, Values, applied}
-use Rattle.serial.specs.Protocol.{Stamp, Due, Version, closed, none-some, val, VersionOk, Grows}
+use Rattle.serial.proofs.Protocol.{Stamp, Due, Version, closed, none-some, val, VersionOk}
+use Rattle.serial.proofs.Growth.{Grows}
 
 -- the lock given to a seat, or given back
 abbrev pub withHolder : Option ℕ → Version → Version

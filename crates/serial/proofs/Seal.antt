@@ -6,10 +6,12 @@ use mathlib.Core.Option.{none, some}
 use mathlib.Core.List.{List, [], map, List·Memᴰ as In, Memᴰ·of-map as in-map}
 use native.Mathlib.Omega.{arith}
 use Rattle.serial.specs.Statement.{FirstRead, WriteEntry, Transaction, Values, changed, applied, Right, placed}
-use Rattle.serial.specs.Order.{Sorted, in-placed, sorted-placed}
-use Rattle.serial.specs.Timeline.{Named, Absent, find, distinct-same, written-named, upto-below, upto-absent, upto-above, right-placed}
-use Rattle.serial.specs.Protocol.{Stamp, Due, Version, ReadEntry, State, checking, storing, closed, Below, none-some, some-same, val, VersionOk, CheckingOk, Inv, Grows, Stays, stays-other, step, keep-holds}
-use Rattle.serial.specs.Versions.{quiet}
+use Rattle.serial.specs.Order.{Sorted}
+use Rattle.serial.proofs.Order.{in-placed, sorted-placed}
+use Rattle.serial.proofs.Timeline.{Named, Absent, find, distinct-same, written-named, upto-below, upto-absent, upto-above, right-placed}
+use Rattle.serial.proofs.Protocol.{Stamp, Due, Version, ReadEntry, State, checking, storing, closed, Below, none-some, some-same, val, VersionOk, CheckingOk, Inv}
+use Rattle.serial.proofs.Growth.{Grows, Stays, stays-other, step, keep-holds}
+use Rattle.serial.proofs.Versions.{quiet}
 
 -- what its reader was told
 abbrev pub told : ReadEntry → FirstRead

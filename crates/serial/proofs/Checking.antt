@@ -21,16 +21,16 @@ use Rattle.rows.specs.Fine.{cond-ind, read-item, time-top, placed-three, Fine, 
 use Rattle.rows.specs.Changed.{movedRow, Nudged, not-nudged, nudge-phase, nudge-position}
 use Rattle.rows.specs.Becomes.{becomes-put, becomes-moved}
 use Rattle.serial.specs.Statement.{Observer, Values, changed, toStore, sealedAt, onSealed, onAdvance, observe, placed}
-use Rattle.serial.specs.Order.{serial-more}
-use Rattle.serial.specs.Timeline.{Named, Absent, find}
-use Rattle.serial.specs.Protocol.{Stamp, Version, ReadEntry, checking, storing, changed-same, changed-other}
-use Rattle.serial.specs.Versions.{extended}
-use Rattle.serial.specs.Seal.{told, transactionOf, marked, allMarked, sealed, seal-inv}
-use Rattle.serial.specs.Steps.{reseat, reversion, Passes, spanned, ours, reached, passes, renews}
-use Rattle.serial.specs.Segments.{seg, length-seg, seg-more, seg-next, seg-end, seg-whole, seg-has}
-use Rattle.serial.specs.View.{readAt, writeAt, writeEntries, seatOf, view, view-checking, nudged-view}
-use Rattle.serial.specs.Agree.{Shown, SeenOk, Good, stampAt, keyed-at, Ok, shown-set, sized-same, seen-nudged, agree-others, agree-same}
-use Rattle.serial.specs.Release.{abort-ok}
+use Rattle.serial.proofs.Order.{serial-more}
+use Rattle.serial.proofs.Timeline.{Named, Absent, find}
+use Rattle.serial.proofs.Protocol.{Stamp, Version, ReadEntry, checking, storing, changed-same, changed-other}
+use Rattle.serial.proofs.Versions.{extended}
+use Rattle.serial.proofs.Seal.{told, transactionOf, marked, allMarked, sealed, seal-inv}
+use Rattle.serial.proofs.Steps.{reseat, reversion, Passes, spanned, ours, reached, passes, renews}
+use Rattle.serial.proofs.Segments.{seg, length-seg, seg-more, seg-next, seg-end, seg-whole, seg-has}
+use Rattle.serial.proofs.View.{readAt, writeAt, writeEntries, seatOf, view, view-checking, nudged-view}
+use Rattle.serial.proofs.Agree.{Shown, SeenOk, Good, stampAt, keyed-at, Ok, shown-set, sized-same, seen-nudged, agree-others, agree-same}
+use Rattle.serial.proofs.Release.{abort-ok}
 
 module _ (opening : Values) (t : Tables) (b : Observer) (g : Good opening t b) (o k last : ℕ) (fi : Fine t o k 0 last) (three : phase (row (t .seats) k) ≡ 3) where
   abbrev gr : List ℕ

@@ -23,12 +23,12 @@ use Rattle.rows.specs.Fine.{cond-ind, write-item, placed-low, Fine, fine-row}
 use Rattle.rows.specs.Changed.{freeRow}
 use Rattle.rows.specs.Becomes.{becomes-freed}
 use Rattle.serial.specs.Statement.{Observer, Values, onAdvance, observe}
-use Rattle.serial.specs.Protocol.{Version, ReadEntry, State, free, working, Inv, changed-same, changed-other}
-use Rattle.serial.specs.Versions.{withHolder}
-use Rattle.serial.specs.Steps.{reseat, reversion, retreats, unlocks, leaves}
-use Rattle.serial.specs.Segments.{seg, seg-next, seg-end, seg-whole}
-use Rattle.serial.specs.View.{writeAt, readEntries, writeEntries, seatOf, view-early, view-checking}
-use Rattle.serial.specs.Agree.{Shown, AllShown, Good, Ok, shown-set, sized-same, agree-others}
+use Rattle.serial.proofs.Protocol.{Version, ReadEntry, State, free, working, Inv, changed-same, changed-other}
+use Rattle.serial.proofs.Versions.{withHolder}
+use Rattle.serial.proofs.Steps.{reseat, reversion, retreats, unlocks, leaves}
+use Rattle.serial.proofs.Segments.{seg, seg-next, seg-end, seg-whole}
+use Rattle.serial.proofs.View.{writeAt, readEntries, writeEntries, seatOf, view-early, view-checking}
+use Rattle.serial.proofs.Agree.{Shown, AllShown, Good, Ok, shown-set, sized-same, agree-others}
 
 length-released : (words g : List ℕ) (n : ℕ) → length (released words g n) ≡ length words
 unfolding released

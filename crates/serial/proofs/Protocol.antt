@@ -1,0 +1,192 @@
+-- The protocol, apart from tables and words: records' versions, seats, and what holds of them between two steps.
+-- A version's number (`wrote`) is apart from its range in the serial order (`from` to `upTo`), and a transaction's place in that order (`key`)
+-- is apart from the time that its stores put into words (`time`).
+use Prim.Native.Nat.{ℕ, _≤_, _<_}
+use mathlib.Core.Path.{_≡_, refl, fun-ext}
+use mathlib.Core.Logic.{_⊎_, _≢_}
+use mathlib.Core.Option.{Option, none, some}
+use mathlib.Core.List.{List, List·Memᴰ as In}
+use native.Mathlib.Omega.{arith}
+use borrow.Author.Tests.{eqb-true, eqb-false, eq-eqb, ne-eqb}
+use lib.Dec.{eqb}
+use Rattle.rows.specs.Fine.{cond-ind}
+use Rattle.serial.specs.Statement.{FirstRead, WriteEntry, Transaction, Values, changed, applied, Right}
+use Rattle.serial.specs.Order.{Sorted}
+use Rattle.serial.proofs.Timeline.{Named, Distinct, upto}
+
+-- a function changed at one place
+pub changed-same : {A : Type 0} (k : ℕ) (a : A) (f : ℕ → A) → changed k a f k ≡ a
+unfolding changed
+changed-same k a f = rw (eq-eqb k k refl)
+
+pub changed-other : {A : Type 0} (k : ℕ) (a : A) (f : ℕ → A) (j : ℕ) → j ≢ k → changed k a f j ≡ f j
+unfolding changed
+changed-other k a f j n = rw (ne-eqb j k n)
+
+pub changed-ind : {A : Type 0} (Q : ℕ → A → Type 0) (k : ℕ) (a : A) (f : ℕ → A) → Q k a → ((j : ℕ) → j ≢ k → Q j (f j)) → (j : ℕ) → Q j (changed k a f j)
+unfolding changed
+changed-ind Q k a f h g j = cond-ind (Q j) (eqb j k) (λ e. rw (eqb-true j k e) h) (λ e. g j (eqb-false j k e))
+
+pub changed-none : {A : Type 0} (k : ℕ) (f : ℕ → A) → changed k (f k) f ≡ f
+changed-none k f = fun-ext (changed-ind (λ j a. a ≡ f j) k (f k) f refl (λ j n. refl))
+
+-- an option is none or some, and of one thing
+pub none-some : {A : Type 0} (o : Option A) (a : A) → o ≡ none → o ≡ some a → ⊥
+none-some o a p q = let z : _≡_ {A = ℕ} 0 1 = cc in omega arith
+
+pub some-same : {A : Type 0} (o : Option A) (a b : A) → o ≡ some a → o ≡ some b → a ≡ b
+some-same o a b p q = cc
+
+-- THE STATE
+-- a transaction's place in the serial order, and the time that its stores put into words
+pub record Stamp : Type 0 where
+  pub key : ℕ
+  pub time : ℕ
+
+-- a store that is sealed and still to come
+pub record Due : Type 0 where
+  pub stamp : Stamp
+  pub entry : WriteEntry
+
+-- a record, as the protocol has it
+pub record Version : Type 0 where
+  pub value : ℕ
+  -- the word's write time, by which versions are told apart
+  pub wrote : ℕ
+  -- its range in the serial order: from the key of the store that made it, to a key up to which no writer is to come
+  pub from : ℕ
+  pub upTo : ℕ
+  -- the seat that holds its lock
+  pub holder : Option ℕ
+  pub due : Option Due
+
+-- a read entry: what its reader was told, and the kept times
+pub record ReadEntry : Type 0 where
+  pub told : FirstRead
+  pub wrote : ℕ
+  pub upTo : ℕ
+
+pub data Seat : Type 0 where
+  free : Seat
+  -- the reads, and the write entries that are locked
+  working : List ReadEntry → List WriteEntry → Seat
+  -- the stamp, the reads that passed, the reads to check, the write entries
+  checking : Stamp → List ReadEntry → List ReadEntry → List WriteEntry → Seat
+  -- the stamp, and the stores left
+  storing : Stamp → List WriteEntry → Seat
+
+pub record State : Type 0 where
+  -- the sealed transactions in their serial order
+  pub order : List Transaction
+  pub version : ℕ → Version
+  pub seat : ℕ → Seat
+
+-- the key and the value of a store to come, or else what is given
+abbrev pub keyOr : Option Due → ℕ → ℕ
+keyOr none u = u
+keyOr (some d) u = d .stamp .key
+
+abbrev pub storedOr : Option Due → ℕ → ℕ
+storedOr none v = v
+storedOr (some d) v = applied (d .entry) v
+
+-- no writer to come has a key up to this
+abbrev pub closed : Version → ℕ
+closed x = keyOr (x .due) (x .upTo)
+
+-- a seat has a store of the record left; a seat holds its lock
+abbrev pub Left : Seat → ℕ → Type 0
+Left free item = ⊥
+Left (working rs ws) item = ⊥
+Left (checking t ok rs ws) item = ⊥
+Left (storing t ws) item = Named item ws
+
+abbrev pub Holds : Seat → ℕ → Type 0
+Holds free item = ⊥
+Holds (working rs ws) item = Named item ws
+Holds (checking t ok rs ws) item = Named item ws
+Holds (storing t ws) item = Named item ws
+
+-- a read entry that may pass at a stamp
+pub record Fits (x : Version) (t : Stamp) (e : ReadEntry) : Type 0 where
+  pub current : x .wrote ≡ e .wrote → x .from ≤ t .key
+  pub kept : e .wrote ≤ t .key
+
+-- a version that may be stored over at a stamp
+pub record Below (x : Version) (t : Stamp) : Type 0 where
+  pub key : x .upTo < t .key
+  pub time : x .wrote < t .time
+
+module _ (opening : Values) where
+  -- a record's value in the serial run, after those with keys up to u
+  abbrev pub val : List Transaction → ℕ → ℕ → ℕ
+  val S item u = upto u S item (opening item)
+
+  -- WHAT HOLDS of a version: of its numbers, of the run's values, and of those who touched it
+  pub record VersionOk (S : List Transaction) (item : ℕ) (x : Version) : Type 0 where
+    pub range : x .from ≤ x .upTo
+    pub wrote-low : x .from ≤ x .wrote
+    pub due-below : (d : Due) → x .due ≡ some d → Below x (d .stamp)
+    pub due-timed : (d : Due) → x .due ≡ some d → d .stamp .key ≡ d .stamp .time
+    pub due-held : x .holder ≡ none → x .due ≡ none
+    -- from its store up to the one to come, and from that one on
+    pub kept : (u : ℕ) → x .from ≤ u → ((d : Due) → x .due ≡ some d → u < d .stamp .key) → val S item u ≡ x .value
+    pub now : (u : ℕ) → keyOr (x .due) (x .from) ≤ u → val S item u ≡ storedOr (x .due) (x .value)
+    pub readers : (T : Transaction) → In T S → (e : FirstRead) → In e (T .reads) → e .item ≡ item → T .key ≤ closed x
+    pub writers : (T : Transaction) → In T S → (w : WriteEntry) → In w (T .writes) → w .item ≡ item → T .key ≤ closed x
+
+  -- of a read entry that is not checked yet
+  pub record EntryOk (S : List Transaction) (x : Version) (e : ReadEntry) : Type 0 where
+    pub older : e .wrote ≤ x .wrote
+    pub shorter : e .upTo ≤ x .upTo
+    pub span : (u : ℕ) → e .wrote ≤ u → u ≤ e .upTo → val S (e .told .item) u ≡ e .told .value
+    pub same : x .wrote ≡ e .wrote → x .value ≡ e .told .value
+
+  -- of one that has passed: what a check establishes, and all that sealing needs
+  pub record Covered (S : List Transaction) (x : Version) (key : ℕ) (ws : List WriteEntry) (e : ReadEntry) : Type 0 where
+    pub seen : val S (e .told .item) key ≡ e .told .value
+    pub safe : (key ≤ closed x) ⊎ Named (e .told .item) ws
+
+  pub record Held (k : ℕ) (x : Version) : Type 0 where
+    pub mine : x .holder ≡ some k
+    pub idle : x .due ≡ none
+
+  pub record WorkingOk (S : List Transaction) (c : ℕ → Version) (k : ℕ) (rs : List ReadEntry) (ws : List WriteEntry) : Type 0 where
+    pub entries : (e : ReadEntry) → In e rs → EntryOk S (c (e .told .item)) e
+    pub held : (w : WriteEntry) → In w ws → Held k (c (w .item))
+    pub distinct : Distinct ws
+
+  pub record CheckingOk (S : List Transaction) (c : ℕ → Version) (k : ℕ) (t : Stamp) (ok rs : List ReadEntry) (ws : List WriteEntry) : Type 0 where
+    pub passed : (e : ReadEntry) → In e ok → Covered S (c (e .told .item)) (t .key) ws e
+    pub entries : (e : ReadEntry) → In e rs → EntryOk S (c (e .told .item)) e
+    pub fits : (e : ReadEntry) → In e rs → Fits (c (e .told .item)) t e
+    pub held : (w : WriteEntry) → In w ws → Held k (c (w .item))
+    pub below : (w : WriteEntry) → In w ws → Below (c (w .item)) t
+    pub timed : t .key ≡ t .time
+    pub distinct : Distinct ws
+
+  pub record StoringOk (c : ℕ → Version) (k : ℕ) (t : Stamp) (ws : List WriteEntry) : Type 0 where
+    pub mine : (w : WriteEntry) → In w ws → c (w .item) .holder ≡ some k
+    pub due : (w : WriteEntry) → In w ws → c (w .item) .due ≡ some (record { stamp = t; entry = w })
+    pub distinct : Distinct ws
+
+  abbrev pub SeatOk : List Transaction → (ℕ → Version) → ℕ → Seat → Type 0
+  SeatOk S c k free = Unit {0}
+  SeatOk S c k (working rs ws) = WorkingOk S c k rs ws
+  SeatOk S c k (checking t ok rs ws) = CheckingOk S c k t ok rs ws
+  SeatOk S c k (storing t ws) = StoringOk c k t ws
+
+  -- THE INVARIANT
+  pub record Inv (σ : State) : Type 0 where
+    pub sorted : Sorted (σ .order)
+    pub right : Right (σ .order) opening
+    pub versions : (item : ℕ) → VersionOk (σ .order) item (σ .version item)
+    pub seats : (k : ℕ) → SeatOk (σ .order) (σ .version) k (σ .seat k)
+    pub holders : (item k : ℕ) → σ .version item .holder ≡ some k → Holds (σ .seat k) item
+
+  pub upTo-closed : {S : List Transaction} {item : ℕ} (x : Version) → VersionOk S item x → x .upTo ≤ closed x
+  upTo-closed x h = go (x .due) refl
+    where
+      go : (o : Option Due) → x .due ≡ o → x .upTo ≤ keyOr o (x .upTo)
+      go none e = omega arith
+      go (some d) e = let l = h .due-below d e .key in omega arith
