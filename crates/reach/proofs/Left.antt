@@ -23,8 +23,9 @@ use Rattle.rules.specs.declared.Verdict.the-variants.{Passes, Extends, Fails}
 use Rattle.rows.specs.Fine.{cond-ind, Fine, fine, fine-row, locks-small, write-item}
 use Rattle.rows.specs.Changed.{free-at}
 use Rattle.rows.specs.Becomes.{becomes-freed}
+use Rattle.rows.specs.Released.{length-released}
 use Rattle.reach.specs.Left.{EachAnswered, RefusalLeavesAll, LetGo, AbortLetsGo, AbandonLetsGo}
-use Rattle.reach.proofs.Freed.{length-released, released-hit, released-miss}
+use Rattle.reach.proofs.Freed.{released-hit, released-miss}
 
 pub each-answered : EachAnswered
 unfolding history told

@@ -4,7 +4,6 @@ pub mod Tests
 pub mod Count
 pub mod Order
 pub mod Named
-pub mod Listed
 pub mod Script
 pub mod Rows
 pub mod Books
@@ -19,7 +18,7 @@ pub mod Begin
 pub mod Effects
 -- the theorems
 pub mod Reached
-pub mod Tally
+pub mod Observed
 pub mod Invariants
 pub mod FairShare
 pub mod Life

@@ -23,8 +23,9 @@ use Rattle.rules.specs.declared.Answer.the-variants.{Dropped}
 use Rattle.rules.specs.declared.Verdict.{Verdict}
 use Rattle.rules.specs.declared.Verdict.the-variants.{Passes, Extends, Fails}
 use Rattle.rows.specs.Fine.{fine}
+use Rattle.observer.specs.Observer.{Seen}
 use Rattle.reach.specs.Reached.{Reached, seen}
-use Rattle.reach.specs.Tally.{Tally, tally, made, w, r}
+use Rattle.reach.specs.Counts.{advanceCount, writeCount, readCount}
 use Rattle.reach.specs.Life.{script, Life, LifeOfEach}
 use Rattle.reach.proofs.Tests.{by}
 use Rattle.reach.proofs.Script.{script-length, Word, says-aborted, says-locked, says-timed, says-checked, says-sealed, says-stored, says-done, word-script, word-done, word-sealed}
@@ -33,7 +34,7 @@ use Rattle.reach.proofs.Rows.{undamaged, passes-early, passes-three, pa
 use Rattle.reach.proofs.Opens.{not-unsized}
 use Rattle.reach.proofs.Effects.{used-of}
 use Rattle.reach.proofs.Reached.{reached-in-order}
-use Rattle.reach.proofs.Tally.{tally-row, writes-are, reads-are}
+use Rattle.reach.proofs.Observed.{seat-is, writes-are, reads-are}
 
 -- AN ADVANCE OF A ROW IN ORDER
 module _ (t : Tables) (s : ℕ) (u : Used (length (t .words)) (row (t .seats) s)) where
@@ -110,22 +111,22 @@ module _ (t : Tables) (z : Reached t) (s : ℕ) (low : s < seatCount) where
       (λ e. let q = eqb-true (phase g) 0 e in let b = passes-early g (omega arith) in let c = k .rows s low .free q positionAt (omega arith) in omega arith)
       (λ e. let b = passes-in t s (k .rows s low .in-use (eqb-false _ _ e)) in omega arith)
 
-  pub made-is : passes (row (t .seats) s) ≡ made (tally s (seen z))
+  pub made-is : passes (row (t .seats) s) ≡ advanceCount (seen z .seats s)
   made-is =
       let l = script-fits in
-      sym (length-take-le (passes (row (t .seats) s)) _ (omega arith)) ∙ ap made (tally-row t z s)
+      sym (length-take-le (passes (row (t .seats) s)) _ (omega arith)) ∙ ap advanceCount (sym (seat-is t z s))
 
-  pub sealed-four : tally s (seen z) .isSealed ≡ true → phase (row (t .seats) s) ≡ 4
-  sealed-four h = eqb-true _ _ (ap (λ (k : Tally). k .isSealed) (tally-row t z s) ∙ h)
+  pub sealed-four : seen z .seats s .isSealed ≡ true → phase (row (t .seats) s) ≡ 4
+  sealed-four h = eqb-true _ _ (ap (λ (x : Seen). x .isSealed) (sym (seat-is t z s)) ∙ h)
 
   -- an Advance that is not refused
   pub says : (o : ℕ) → kind (step t (Advance o s) .answer) ≢ refused →
-      Word (w (tally s (seen z))) (r (tally s (seen z))) (made (tally s (seen z))) (kind (step t (Advance o s) .answer))
+      Word (writeCount (seen z .seats s)) (readCount (seen z .seats s)) (advanceCount (seen z .seats s)) (kind (step t (Advance o s) .answer))
   unfolding step advance
   says o =
       by (eqb (refusal t o s 0 4) 0)
       (λ e d. let f = fine t o s 0 4 (eqb-true _ _ e) in
-      rw (e, ← writes-are t z s low, ← reads-are t z s low, ← made-is) (advance-word t s (used-of t k o s 0 4 f)))
+      rw (e, ← writes-are t z s, ← reads-are t z s, ← made-is) (advance-word t s (used-of t k o s 0 4 f)))
       (λ e d. absurd (d (rw e refl)))
 
   -- a call that names the seat is refused where the row is past the call's last phase
@@ -135,7 +136,7 @@ module _ (t : Tables) (z : Reached t) (s : ℕ) (low : s < seatCount) where
       (λ e. let f = fine t o s x last (eqb-true _ _ e) in let p = f .phase-in in absurd (omega arith))
       (λ e. rw e refl)
 
-  pub made-past : 1 ≤ made (tally s (seen z)) → 1 < phase (row (t .seats) s)
+  pub made-past : 1 ≤ advanceCount (seen z .seats s) → 1 < phase (row (t .seats) s)
   made-past h =
       let g : List ℕ = row (t .seats) s in
       let m = made-is in
@@ -156,24 +157,24 @@ module _ (t : Tables) (z : Reached t) (s : ℕ) (low : s < seatCount) where
       let mine = eq-eqb (owner g) (owner g) refl in
       rw (not-unsized t k, whose, lt-leb seatCount s low, named, sound, ne-eqb (phase g) 0 (omega arith), mine, lt-ltb 3 (phase g) (omega arith)) refl
 
-  pub life : Life t s (tally s (seen z))
+  pub life : Life t s (seen z .seats s)
   unfolding step read write abandon
   life =
       record {
-        so-far = rw (← made-is, ← writes-are t z s low, ← reads-are t z s low) (ap (λ (k : Tally). k .words) (sym (tally-row t z s)));
+        so-far = rw (← made-is, ← writes-are t z s, ← reads-are t z s) (ap (λ (x : Seen). x .advances) (seat-is t z s));
         in-order = λ o d n. word-script (says o d) n;
         done-exactly = λ o d. word-done (says o d);
-        never-past = rw (← made-is, ← writes-are t z s low, ← reads-are t z s low) script-fits;
+        never-past = rw (← made-is, ← writes-are t z s, ← reads-are t z s) script-fits;
         settled = λ h o x v. (refused-past o x 1 (readIn t s x) (made-past h), refused-past o x 1 (writeIn t s x v) (made-past h));
         never-aborted = λ h o q.
             let p = sealed-four h in
             let a = passes-four (row (t .seats) s) p in
             let m = made-is in
-            let x = writes-are t z s low in
-            let y = reads-are t z s low in
+            let x = writes-are t z s in
+            let y = reads-are t z s in
             word-sealed (says o (λ e. omega arith)) (omega arith) q;
         not-abandoned = λ h o. let p = sealed-four h in refused-past o 0 3 (letGo t s (Dropped s)) (omega arith);
-        abandon-five = λ h. rw (← ap (λ (k : Tally). k .holder) (tally-row t z s), five (sealed-four h)) refl;
+        abandon-five = λ h. rw (← ap (λ (x : Seen). x .holder) (sym (seat-is t z s)), five (sealed-four h)) refl;
       }
 
 pub life-of-each : (t : Tables) → LifeOfEach t

@@ -10,7 +10,7 @@ use lib.Dec.{leb, eqb}
 use lib.ListN.{length, take}
 use Rattle.rules.specs.Tests.{firstOf}
 use Rattle.rules.specs.Layout.{owners, seatCount, mostRecords, seatsLength, positionAt, readsAt, writesAt, timeAt}
-use Rattle.rules.specs.Layout.{row, phase, owner, position, reads, writes, time, readItem, share, limit}
+use Rattle.rules.specs.Layout.{row, phase, owner, position, reads, writes, time, share, limit}
 use Rattle.rules.specs.Places.{length-row}
 use Rattle.rules.specs.Tables.{Tables, after}
 use Rattle.rules.specs.Refusals.{unsized}
@@ -21,15 +21,17 @@ use Rattle.rows.specs.Fine.{first-none}
 use Rattle.rows.specs.FreeSeat.{seat-found}
 use Rattle.rows.specs.Changed.{openedRow, opened-row}
 use Rattle.rows.specs.Becomes.{becomes-opened}
-use Rattle.reach.specs.Tally.{adds}
+use Rattle.observer.specs.Observer.{givenTo}
+use Rattle.observer.proofs.Segments.{seg}
+use Rattle.observer.proofs.Entries.{readAt, writeAt}
 use Rattle.reach.specs.Life.{script}
 use Rattle.reach.proofs.Tests.{by, all-none, not-third}
 use Rattle.reach.proofs.Count.{one}
-use Rattle.reach.proofs.Order.{locks, listed, Books, InOrder}
-use Rattle.reach.proofs.Named.{named-empty, locks-none}
+use Rattle.reach.proofs.Order.{locks, Books, InOrder}
+use Rattle.reach.proofs.Named.{locks-none}
 use Rattle.reach.proofs.Rows.{row-used, to-early, passes-early}
 use Rattle.reach.proofs.Books.{books-open}
-use Rattle.reach.proofs.Steps.{tallyOf, tally-is, Change, Told}
+use Rattle.reach.proofs.Steps.{seen-as, left-none, Change, Told}
 use Rattle.reach.proofs.Freed.{locks-free}
 
 -- tables in order are sized and sound
@@ -140,24 +142,28 @@ module _ (t : Tables) (k : InOrder t) (o : ℕ) where
           timely = λ x a e. e;
         }
 
-    pub open-told : Told o (row (t .seats) s) (openedRow o) (Seat s)
-    unfolding adds listed
+    pub open-told : Told (λ x a. givenTo o) (row (t .seats) s) (openedRow o) (Seat s)
+    unfolding seg
     open-told =
         let z = opened-row o in
         let d0 : phase h ≡ 1 = z .is-phase in
-        let d2 : position h ≡ 0 = z .rest positionAt (omega arith) (omega arith) in
-        let d3 : reads h ≡ 0 = z .rest readsAt (omega arith) (omega arith) in
-        let d4 : writes h ≡ 0 = z .rest writesAt (omega arith) (omega arith) in
+        let none : phase h ≢ 4 = omega arith in
         record {
-          tallied =
-              tally-is h (adds o (Seat s) (tallyOf (row (t .seats) s)))
-              (ap not (ne-eqb (phase h) 0 (omega arith)))
-              (z .is-owner)
-              (ap (λ (n : ℕ). take n (script (writes h) (reads h))) (passes-early h (omega arith) ∙ d2))
-              (ne-eqb (phase h) 4 (omega arith))
-              (λ x. named-empty _ 0 (writes h) x (omega arith))
-              (ap (listed (readItem h)) d3)
-              (λ x. locks-none h x (let y = to-early h (omega arith) in omega arith));
+          shown =
+              seen-as h (givenTo o)
+              (record {
+                is-open = ap not (ne-eqb (phase h) 0 (omega arith));
+                is-holder = z .is-owner;
+                is-advances = ap (λ (n : ℕ). take n (script (writes h) (reads h))) (passes-early h (omega arith) ∙ z .rest positionAt (omega arith) (omega arith));
+                is-sealed = ne-eqb (phase h) 4 none;
+                shows = record {
+                  is-reads = ap (seg (readAt h) 0) (z .rest readsAt (omega arith) (omega arith));
+                  is-writes = ap (seg (writeAt h) 0) (z .rest writesAt (omega arith) (omega arith));
+                };
+                is-locked = λ x. locks-none h x (let y = to-early h (omega arith) in let p = z .rest positionAt (omega arith) (omega arith) in omega arith);
+                is-key = z .rest timeAt (omega arith) (omega arith);
+                is-left = left-none h none;
+              });
           fair = λ e. absurd (omega arith);
           plain = λ e. omega arith;
         }

@@ -1,9 +1,9 @@
 -- What holds of the tables from Setup on, as one record: the invariant that each call keeps.
-use Prim.Native.Nat.{ℕ, zero, suc, _<_, _≤_, _+_}
+use Prim.Native.Nat.{ℕ, _<_, _≤_, _+_}
 use mathlib.Core.Path.{_≡_}
 use mathlib.Core.Logic.{_≢_}
 use mathlib.Core.Bool.{Bool, false, cond, _&&_}
-use mathlib.Core.List.{List, [], _∷_, _++_}
+use mathlib.Core.List.{List}
 use lib.ListN.{length, getD}
 use lib.Dec.{eqb, leb}
 use Rattle.clock.specs.Word.{top, isLocked, readTime}
@@ -56,20 +56,9 @@ pub record Row (n : ℕ) (g : List ℕ) : Type 0 where
 unfoldable pub named : (ℕ → ℕ) → ℕ → ℕ → ℕ → Bool
 named items lo hi item = any (λ i. leb lo i && eqb (items i) item) hi
 
--- whether a row holds the record's lock, and has a write entry for it
+-- whether a row holds the record's lock
 unfoldable pub locks : List ℕ → ℕ → Bool
 locks g item = named (writeItem g) (lockFrom g) (lockTo g) item
-
-abbrev pub written : List ℕ → ℕ → Bool
-written g item = named (writeItem g) 0 (writes g) item
-
--- the records of the first n entries, in order
-unfoldable pub listed : (ℕ → ℕ) → ℕ → List ℕ
-listed items zero = []
-listed items (suc n) = listed items n ++ (items n ∷ [])
-
-abbrev pub readList : List ℕ → List ℕ
-readList g = listed (readItem g) (reads g)
 
 -- how many Advances a row has had, by its phase
 unfoldable pub passes : List ℕ → ℕ

@@ -11,8 +11,8 @@ use Rattle.rules.specs.Answers.{seat, kind, number}
 use Rattle.rules.specs.Calls.{Open, step}
 use Rattle.rules.specs.declared.Answer.{Answer}
 use Rattle.rules.specs.declared.Answer.the-variants.{Refused}
-use Rattle.reach.specs.Reached.{Reached, seen, planNow}
-use Rattle.reach.specs.Tally.{seatsOf}
+use Rattle.reach.specs.Reached.{Reached, seen}
+use Rattle.reach.specs.Counts.{seatsOf}
 
 -- what owner o holds, may always have, and may never pass; and U, the seats held or kept back for a share
 module _ (t : Tables) where
@@ -60,7 +60,7 @@ pub record Fair (t : Tables) (o : ℕ) : Type 0 where
 pub record FairShare (t : Tables) (z : Reached t) : Type 0 where
   pub each : (o : ℕ) → o < owners → Fair t o
   -- shares and limits are those of the last Setup that answered ready, and held seats can be told from calls and answers
-  pub plan-kept : (o : ℕ) → o < owners → (shareOf t o ≡ share (planNow z) o) × (limitOf t o ≡ limit (planNow z) o)
+  pub plan-kept : (o : ℕ) → o < owners → (shareOf t o ≡ share (seen z .plan) o) × (limitOf t o ≡ limit (seen z .plan) o)
   pub held-seen : (o : ℕ) → holding t o ≡ seatsOf o (seen z)
   -- any other number is no owner
   pub no-owner : (o : ℕ) → owners ≤ o → asks t o ≡ Refused 2

@@ -12,21 +12,22 @@ use Rattle.rules.specs.Tables.{Tables}
 use Rattle.rules.specs.Answers.{ready, sealed, stored, done, refused, kind}
 use Rattle.rules.specs.Calls.{Call, Setup, Open, Read, Write, Advance, Abandon, step, Event, history}
 use Rattle.rules.specs.declared.Answer.the-variants.{Dropped}
+use Rattle.observer.specs.Observer.{Seen}
 use Rattle.reach.specs.Reached.{Reached, seen}
-use Rattle.reach.specs.Tally.{Tally, tally, w}
+use Rattle.reach.specs.Counts.{writeCount}
 use Rattle.reach.specs.Life.{advanced}
 
--- SEAT s, at any time; k is what calls and answers tell of it
-pub record Progress (t : Tables) (s : ℕ) (k : Tally) : Type 0 where
+-- SEAT s, at any time; x is what has been seen of it
+pub record Progress (t : Tables) (s : ℕ) (x : Seen) : Type 0 where
   -- an Advance of a given seat by its holder is never refused
-  pub never-refused : k .isOpen ≡ true → kind (advanced t (k .holder) s) ≢ refused
+  pub never-refused : x .isOpen ≡ true → kind (advanced t (x .holder) s) ≢ refused
   -- once Sealed, it is answered Stored or Done
-  pub goes-on : k .isSealed ≡ true → (kind (advanced t (k .holder) s) ≡ stored) ⊎ (kind (advanced t (k .holder) s) ≡ done)
+  pub goes-on : x .isSealed ≡ true → (kind (advanced t (x .holder) s) ≡ stored) ⊎ (kind (advanced t (x .holder) s) ≡ done)
   -- Abandon by the holder is never refused before Sealed
-  pub may-leave : k .isOpen ≡ true → k .isSealed ≡ false → step t (Abandon (k .holder) s) .answer ≡ Dropped s
+  pub may-leave : x .isOpen ≡ true → x .isSealed ≡ false → step t (Abandon (x .holder) s) .answer ≡ Dropped s
 
 abbrev pub ProgressOfEach : Tables → Type 0
-ProgressOfEach t = (z : Reached t) (s : ℕ) → s < seatCount → Progress t s (tally s (seen z))
+ProgressOfEach t = (z : Reached t) (s : ℕ) → s < seatCount → Progress t s (seen z .seats s)
 
 -- whether a call is owner o's Advance of seat s
 unfoldable pub isAdvance : ℕ → ℕ → Call → Bool
@@ -56,5 +57,5 @@ abbrev pub EndsExactly : Tables → Type 0
 EndsExactly t =
     (z : Reached t) (o s : ℕ) → kind (advanced t o s) ≡ sealed → (cs : List Call) →
     let after = history (step t (Advance o s) .tables) cs in
-    let last = ending (w (tally s (seen z))) in
+    let last = ending (writeCount (seen z .seats s)) in
     noneReady after ≡ true → take (length last) (advancesOf o s after) ≡ take (length (advancesOf o s after)) last

@@ -1,10 +1,10 @@
 -- How tables, with what the observer has seen, stand to a state of the protocol; and what is to be shown of a call.
 use Prim.Native.Nat.{ℕ, _-_, _≤_, _<_}
-use mathlib.Core.Path.{_≡_, refl, sym, ap, _∙_}
+use mathlib.Core.Path.{_≡_, sym, _∙_}
 use mathlib.Core.Logic.{_≢_}
 use mathlib.Core.Bool.{false}
 use mathlib.Core.Option.{none, some}
-use mathlib.Core.List.{List, map, List·Memᴰ as In}
+use mathlib.Core.List.{List, List·Memᴰ as In}
 use native.Mathlib.Omega.{arith}
 use native.Mathlib.Decide.{ℕ-discrete}
 use borrow.Author.Tests.{eqb-true}
@@ -14,15 +14,18 @@ use lib.Seq.{getD-set-same, getD-set-other}
 use Rattle.clock.specs.Word.{isLocked, writeTime, readTime}
 use Rattle.rules.specs.Layout.{row, phase, position, writes, time}
 use Rattle.rules.specs.Tables.{Tables, Outcome, keep, unless}
-use Rattle.rules.specs.Calls.{Call, Setup, Open, Read, Write, Advance, Abandon}
+use Rattle.rules.specs.Calls.{Call}
 use Rattle.rules.specs.declared.Answer.the-variants.{Refused}
 use Rattle.rows.specs.Fine.{cond-ind, Sized}
 use Rattle.rows.specs.Changed.{Nudged}
 use Rattle.rows.specs.Becomes.{Becomes}
-use Rattle.serial.specs.Statement.{Transaction, Seen, Observer, Values, changed, seeing, onAdvance, begins, observe, serial}
-use Rattle.serial.proofs.Protocol.{Stamp, Version, Seat, State, Inv, changed-same, changed-other, changed-ind}
-use Rattle.serial.proofs.Seal.{told}
-use Rattle.serial.proofs.View.{readEntries, writeEntries, view, nudged-writes, nudged-readEntries, nudged-writeEntries}
+use Rattle.observer.specs.Observer.{Transaction, Seen, Observer, changed, seeing, observe}
+use Rattle.observer.proofs.Changes.{changed-same, changed-other, changed-ind, refusal-shows}
+use Rattle.observer.proofs.Entries.{nudged-writes, nudged-firstReads, nudged-writeEntries}
+use Rattle.observer.proofs.Shows.{Shows}
+use Rattle.serial.specs.Statement.{Values, serial}
+use Rattle.serial.proofs.Protocol.{Stamp, Version, Seat, State, Inv}
+use Rattle.serial.proofs.View.{view}
 
 -- a record's value and word show its version
 pub record Shown (x : Version) (v word : ℕ) : Type 0 where
@@ -37,8 +40,7 @@ AllShown c values words = (item : ℕ) → item < length words → Shown (c item
 
 -- what is seen of a seat is what its row holds
 pub record SeenOk (g : List ℕ) (x : Seen) : Type 0 where
-  pub is-reads : map told (readEntries g) ≡ x .reads
-  pub is-writes : writeEntries g ≡ x .writes
+  pub shows : Shows g x
   pub is-key : 3 ≤ phase g → x .key ≡ time g
   pub is-left : phase g ≡ 4 → x .left ≡ writes g - position g
 
@@ -50,8 +52,7 @@ seen-nudged {g} {h} n x y o a b key left =
     let po = n .is-position in
     let wr = nudged-writes n in
     record {
-      is-reads = ap (map told) (nudged-readEntries n) ∙ o .is-reads ∙ sym a;
-      is-writes = nudged-writeEntries n ∙ o .is-writes ∙ sym b;
+      shows = record { is-reads = nudged-firstReads n ∙ o .shows .is-reads ∙ sym a; is-writes = nudged-writeEntries n ∙ o .shows .is-writes ∙ sym b };
       is-key = λ l. key (omega arith) ∙ sym (n .is-time);
       is-left = λ e. omega (arith, left (omega arith));
     }
@@ -83,13 +84,7 @@ Ok opening b c z = Good opening (z .tables) (observe b c (z .answer))
 
 -- a refusal shows nothing new
 pub refused : (opening : Values) (t : Tables) (b : Observer) → Good opening t b → (c : Call) (why : ℕ) → Ok opening b c (keep t (Refused why))
-unfolding observe begins onAdvance
-refused opening t b g (Setup start plan) why = g
-refused opening t b g (Open o) why = g
-refused opening t b g (Read o s item) why = g
-refused opening t b g (Write o s item v) why = g
-refused opening t b g (Advance o s) why = g
-refused opening t b g (Abandon o s) why = g
+refused opening t b g c why = rw (refusal-shows b c why) g
 
 pub unless-ok : (opening : Values) (t : Tables) (b : Observer) → Good opening t b → (c : Call) (why : ℕ) (z : Outcome) → (why ≡ 0 → Ok opening b c z) → Ok opening b c (unless why t z)
 unless-ok opening t b g c why z h = cond-ind (Ok opening b c) (eqb why 0) (λ e. h (eqb-true why 0 e)) (λ _. refused opening t b g c why)
@@ -148,9 +143,3 @@ module _ {t : Tables} {σ : State} {b : Observer} (h : Agree t σ b) (u : Tables
   agree-seeing x v se =
       agree-others t u σ b (seeing b k x) k (λ j n. h .rows j) (h .seen) (σ .order) c s g (sized-same u (h .sized) va wo (be .size)) shown be
       (rw (changed-same k x (b .seats)) v) (rw (changed-same k x (b .seats)) se) (λ j n. changed-other k x (b .seats) j n) (h .order) (h .by-time)
-
-  -- nothing new is seen
-  pub agree-same : s ≡ view (b .seats k .key) g → (phase g ≢ 0 → SeenOk g (b .seats k)) →
-      Agree u (record { order = σ .order; version = c; seat = changed k s (σ .seat) }) b
-  agree-same v se =
-      agree-others t u σ b b k (λ j n. h .rows j) (h .seen) (σ .order) c s g (sized-same u (h .sized) va wo (be .size)) shown be v se (λ j n. refl) (h .order) (h .by-time)

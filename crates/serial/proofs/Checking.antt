@@ -13,23 +13,27 @@ use Rattle.clock.specs.Laws.{write≤read, extended-is, extended-grows}
 use Rattle.rules.specs.Layout.{positionAt, row, put, phase, position, reads, writes, time, readItem}
 use Rattle.rules.specs.Tables.{Tables, tables}
 use Rattle.rules.specs.Work.{writeNames, writeOf}
-use Rattle.rules.specs.Advance.{moved, verdict, judged, stretched, passed, ruled, checkStep, sealStep, checkPhase}
+use Rattle.rules.specs.Advance.{moved, checkItem, verdict, judged, stretched, passed, ruled, checkStep, sealStep, checkPhase}
 use Rattle.rules.specs.Calls.{Advance}
+use Rattle.rules.specs.declared.Answer.the-variants.{Checked, Sealed}
 use Rattle.rules.specs.declared.Verdict.{Verdict}
 use Rattle.rows.specs.Search.{first-hit}
 use Rattle.rows.specs.Fine.{cond-ind, read-item, time-top, placed-three, Fine, fine-row}
 use Rattle.rows.specs.Changed.{movedRow, Nudged, not-nudged, nudge-phase, nudge-position}
 use Rattle.rows.specs.Becomes.{becomes-put, becomes-moved}
-use Rattle.serial.specs.Statement.{Observer, Values, changed, toStore, sealedAt, onSealed, onAdvance, observe, placed}
+use Rattle.observer.specs.Observer.{Observer, onAdvance, changed, seeing, sealedAt, observe}
+use Rattle.observer.proofs.Changes.{changed-same, changed-other}
+use Rattle.serial.specs.Statement.{Values, placed}
 use Rattle.serial.proofs.Order.{serial-more}
 use Rattle.serial.proofs.Timeline.{Named, Absent, find}
-use Rattle.serial.proofs.Protocol.{Stamp, Version, ReadEntry, checking, storing, changed-same, changed-other}
+use Rattle.serial.proofs.Protocol.{Stamp, Version, ReadEntry, checking, storing}
 use Rattle.serial.proofs.Versions.{extended}
 use Rattle.serial.proofs.Seal.{told, transactionOf, marked, allMarked, sealed, seal-inv}
 use Rattle.serial.proofs.Steps.{reseat, reversion, Passes, spanned, ours, reached, passes, renews}
-use Rattle.serial.proofs.Segments.{seg, length-seg, seg-more, seg-next, seg-end, seg-whole, seg-has}
-use Rattle.serial.proofs.View.{readAt, writeAt, writeEntries, seatOf, view, view-checking, nudged-view}
-use Rattle.serial.proofs.Agree.{Shown, SeenOk, Good, stampAt, keyed-at, Ok, shown-set, sized-same, seen-nudged, agree-others, agree-same}
+use Rattle.observer.proofs.Segments.{seg, length-seg, seg-more, seg-next, seg-end, seg-whole, seg-has}
+use Rattle.observer.proofs.Entries.{writeAt, writeEntries}
+use Rattle.serial.proofs.View.{entryAt, told-entries, seatOf, view, view-checking, nudged-view}
+use Rattle.serial.proofs.Agree.{Shown, SeenOk, Good, stampAt, keyed-at, Ok, shown-set, sized-same, seen-nudged, agree-others, agree-seeing}
 use Rattle.serial.proofs.Release.{abort-ok}
 
 module _ (opening : Values) (t : Tables) (b : Observer) (g : Good opening t b) (o k last : ℕ) (fi : Fine t o k 0 last) (three : phase (row (t .seats) k) ≡ 3) where
@@ -45,7 +49,7 @@ module _ (opening : Values) (t : Tables) (b : Observer) (g : Good opening t b) (
   abbrev stamp : Stamp
   stamp = stampAt t b k
 
-  is-checking : g .σ .seat k ≡ checking stamp (seg (readAt gr) 0 (position gr)) (seg (readAt gr) (position gr) (reads gr - position gr)) (writeEntries gr)
+  is-checking : g .σ .seat k ≡ checking stamp (seg (entryAt gr) 0 (position gr)) (seg (entryAt gr) (position gr) (reads gr - position gr)) (writeEntries gr)
   is-checking = g .agree .rows k ∙ view-checking (b .seats k .key) gr three
 
   -- THE CHECK of the read entry at position
@@ -54,13 +58,13 @@ module _ (opening : Values) (t : Tables) (b : Observer) (g : Good opening t b) (
     p = position gr
 
     abbrev e : ReadEntry
-    e = readAt gr p
+    e = entryAt gr p
 
     abbrev earlier : List ReadEntry
-    earlier = seg (readAt gr) 0 p
+    earlier = seg (entryAt gr) 0 p
 
     abbrev others : List ReadEntry
-    others = seg (readAt gr) (p + 1) (reads gr - (p + 1))
+    others = seg (entryAt gr) (p + 1) (reads gr - (p + 1))
 
     abbrev x : Version
     x = g .σ .version (e .told .item)
@@ -75,7 +79,7 @@ module _ (opening : Values) (t : Tables) (b : Observer) (g : Good opening t b) (
     shown = g .agree .shown (e .told .item) in-words
 
     next : g .σ .seat k ≡ checking stamp earlier (e ∷ others) (writeEntries gr)
-    next = is-checking ∙ rw (seg-next (readAt gr) p (reads gr) l)
+    next = is-checking ∙ rw (seg-next (entryAt gr) p (reads gr) l)
 
     -- position up by one
     on : Nudged gr (set gr positionAt (position gr + 1)) 3 (position gr + 1) (time gr)
@@ -83,22 +87,24 @@ module _ (opening : Values) (t : Tables) (b : Observer) (g : Good opening t b) (
 
     then : checking stamp (earlier ++ (e ∷ [])) others (writeEntries gr) ≡ view (b .seats k .key) (set gr positionAt (p + 1))
     unfolding seatOf
-    then = (λ i. checking stamp (sym (seg-more (readAt gr) p) i) others (writeEntries gr)) ∙ sym (nudged-view on (b .seats k .key))
+    then = (λ i. checking stamp (sym (seg-more (entryAt gr) p) i) others (writeEntries gr)) ∙ sym (nudged-view on (b .seats k .key))
 
-    seen-on : SeenOk (set gr positionAt (position gr + 1)) (b .seats k)
-    seen-on = seen-nudged on (b .seats k) (b .seats k) seen refl refl (λ _. keyed) (λ q. absurd (omega arith))
+    seen-on : SeenOk (set gr positionAt (position gr + 1)) (onAdvance (b .seats k) (Checked (checkItem gr)))
+    unfolding onAdvance
+    seen-on = seen-nudged on (b .seats k) (onAdvance (b .seats k) (Checked (checkItem gr))) seen refl refl (λ _. keyed) (λ q. absurd (omega arith))
 
-    pass-good : Passes x stamp (writeEntries gr) e → Good opening (tables (t .values) (t .words) (put (t .seats) k positionAt (position gr + 1))) b
+    pass-good : Passes x stamp (writeEntries gr) e → Good opening (tables (t .values) (t .words) (put (t .seats) k positionAt (position gr + 1))) (seeing b k (onAdvance (b .seats k) (Checked (checkItem gr))))
+    unfolding onAdvance
     pass-good q =
         record {
           σ = reseat (g .σ) k (checking stamp (earlier ++ (e ∷ [])) others (writeEntries gr));
           inv = passes opening (g .σ) (g .inv) k stamp earlier others (writeEntries gr) e next q;
-          agree = agree-same (g .agree) (tables (t .values) (t .words) (put (t .seats) k positionAt (p + 1))) (g .σ .version) k _ (set gr positionAt (p + 1)) refl refl (g .agree .shown)
-              (becomes-put (t .seats) k positionAt (p + 1) (omega arith)) then (λ _. seen-on);
+          agree = agree-seeing (g .agree) (tables (t .values) (t .words) (put (t .seats) k positionAt (p + 1))) (g .σ .version) k _ (set gr positionAt (p + 1)) refl refl (g .agree .shown)
+              (becomes-put (t .seats) k positionAt (p + 1) (omega arith)) (onAdvance (b .seats k) (Checked (checkItem gr))) then (λ _. seen-on);
         }
 
-    extend-good : writeTime word ≡ e .wrote → readTime word < time gr → isLocked word ≡ false → Good opening (tables (t .values) (stretched (t .words) gr) (put (t .seats) k positionAt (position gr + 1))) b
-    unfolding stretched
+    extend-good : writeTime word ≡ e .wrote → readTime word < time gr → isLocked word ≡ false → Good opening (tables (t .values) (stretched (t .words) gr) (put (t .seats) k positionAt (position gr + 1))) (seeing b k (onAdvance (b .seats k) (Checked (checkItem gr))))
+    unfolding stretched onAdvance
     extend-good same early unlocked =
         let a = write≤read word in
         let low : writeTime word ≤ time gr = omega arith in
@@ -113,11 +119,11 @@ module _ (opening : Values) (t : Tables) (b : Observer) (g : Good opening t b) (
           σ = reseat (reversion (g .σ) (e .told .item) y) k (checking stamp (earlier ++ (e ∷ [])) others (writeEntries gr));
           inv = renews opening (g .σ) (g .inv) k stamp earlier others (writeEntries gr) e (writeTime w) next (m .idle unlocked) (m .is-wrote ∙ same)
               (omega arith) (omega (arith, m .is-upTo));
-          agree = agree-same (g .agree) (tables (t .values) (set (t .words) (e .told .item) w) (put (t .seats) k positionAt (p + 1))) (changed (e .told .item) y (g .σ .version)) k _ (set gr positionAt (p + 1))
+          agree = agree-seeing (g .agree) (tables (t .values) (set (t .words) (e .told .item) w) (put (t .seats) k positionAt (p + 1))) (changed (e .told .item) y (g .σ .version)) k _ (set gr positionAt (p + 1))
               refl (length-set (t .words) (e .told .item) w)
               (shown-set (g .σ .version) (t .values) (t .words) (t .values) (e .told .item) w y (g .agree .shown) (λ j d. refl) in-words
               (record { is-value = m .is-value; is-wrote = refl; is-upTo = kt ∙ sym (is .is-read); idle = λ q. m .idle (sym (is .is-locked) ∙ q) }))
-              (becomes-put (t .seats) k positionAt (p + 1) (omega arith)) then (λ _. seen-on);
+              (becomes-put (t .seats) k positionAt (p + 1) (omega arith)) (onAdvance (b .seats k) (Checked (checkItem gr))) then (λ _. seen-on);
         }
 
     -- the seat writes the record too
@@ -155,28 +161,28 @@ module _ (opening : Values) (t : Tables) (b : Observer) (g : Good opening t b) (
         record { is-value = z .is-value; is-wrote = z .is-wrote; is-upTo = z .is-upTo; idle = z .idle }
     marked-shown item l (inr a) = g .agree .shown item l
 
-    seal-good : Good opening (tables (t .values) (t .words) (moved (t .seats) k 4 0)) (onSealed b k (time gr))
-    unfolding seatOf toStore onSealed
+    seal-good : Good opening (tables (t .values) (t .words) (moved (t .seats) k 4 0)) (observe b (Advance o k) (Sealed (time gr)))
+    unfolding seatOf onAdvance observe
     seal-good =
-        let ok = seg (readAt gr) 0 (position gr) in
+        let ok = seg (entryAt gr) 0 (position gr) in
         let ws = writeEntries gr in
         let z = b .seats k in
-        let x = toStore z in
+        let x = onAdvance z (Sealed (time gr)) in
         let n = nudge-position (nudge-phase (not-nudged gr (fine-row fi)) 4) 0 in
-        let rs : map told ok ≡ z .reads = rw all (seen .is-reads) in
+        let rs : map told ok ≡ z .reads = rw all (told-entries gr ∙ seen .shows .is-reads) in
         let T = sealedAt z (time gr) in
         record {
           σ = sealed (g .σ) k stamp ok ws;
-          inv = seal-inv opening (g .σ) k stamp ok ws (is-checking ∙ rw (seg-end (readAt gr) (position gr) (reads gr) (omega arith))) (g .inv);
-          agree = agree-others t (tables (t .values) (t .words) (moved (t .seats) k 4 0)) (g .σ) b (onSealed b k (time gr)) k (λ j d. g .agree .rows j) (g .agree .seen)
+          inv = seal-inv opening (g .σ) k stamp ok ws (is-checking ∙ rw (seg-end (entryAt gr) (position gr) (reads gr) (omega arith))) (g .inv);
+          agree = agree-others t (tables (t .values) (t .words) (moved (t .seats) k 4 0)) (g .σ) b (observe b (Advance o k) (Sealed (time gr))) k (λ j d. g .agree .rows j) (g .agree .seen)
               (placed (transactionOf stamp ok ws) (g .σ .order)) (allMarked stamp ws (g .σ .version)) (storing stamp ws) (movedRow gr 4 0)
               (sized-same (tables (t .values) (t .words) (moved (t .seats) k 4 0)) (g .agree .sized) refl refl (becomes-moved (t .seats) k 4 0 .size))
               (λ item l. marked-shown item l (find item ws)) (becomes-moved (t .seats) k 4 0)
               (rw (changed-same k x (b .seats)) ((λ i. storing stamp (sym (seg-whole (writeAt gr) (writes gr)) i)) ∙ sym (nudged-view n (z .key))))
               (λ _. rw (changed-same k x (b .seats)) (seen-nudged n z x seen refl refl (λ _. keyed)
-              (λ _. ap length (sym (seen .is-writes)) ∙ length-seg (writeAt gr) (writes gr) 0 ∙ (let q : writes gr ≡ writes gr - 0 = omega arith in q))))
+              (λ _. ap length (sym (seen .shows .is-writes)) ∙ length-seg (writeAt gr) (writes gr) 0 ∙ (let q : writes gr ≡ writes gr - 0 = omega arith in q))))
               (λ j d. changed-other k x (b .seats) j d)
-              ((λ i. placed (record { time = time gr; key = z .key; reads = rs i; writes = seen .is-writes i }) (g .agree .order i)) ∙ sym (serial-more (b .sealed) T))
+              ((λ i. placed (record { time = time gr; key = z .key; reads = rs i; writes = seen .shows .is-writes i }) (g .agree .order i)) ∙ sym (serial-more (b .sealed) T))
               (λ U i. ⊎-elim (λ (j : In U (b .sealed)). g .agree .by-time U j) (λ (j : In U (T ∷ [])). rw (eq-of-singleton j) keyed) (append-cases (b .sealed) i));
         }
 

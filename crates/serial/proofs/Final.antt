@@ -5,7 +5,8 @@ use mathlib.Core.Logic.{⊎-elim}
 use mathlib.Core.Option.{Option, none, some}
 use mathlib.Core.List.{List, [], _∷_, List·Memᴰ as In, List·Memᴰ·not-nil as not-nil, List·Memᴰ·cases-cons as uncons}
 use native.Mathlib.Omega.{arith}
-use Rattle.serial.specs.Statement.{Transaction, Values, outcome, Right}
+use Rattle.observer.specs.Observer.{Transaction}
+use Rattle.serial.specs.Statement.{Values, outcome, Right}
 use Rattle.serial.specs.Order.{Sorted}
 use Rattle.serial.proofs.Timeline.{upto, upto-all}
 use Rattle.serial.proofs.Protocol.{Due, State, free, Left, none-some, val, Inv}

@@ -6,10 +6,12 @@ use mathlib.Core.Option.{Option, none, some}
 use mathlib.Core.List.{List, List·Memᴰ as In}
 use native.Mathlib.Omega.{arith}
 use native.Mathlib.Decide.{ℕ-discrete}
-use Rattle.serial.specs.Statement.{WriteEntry, Transaction, Values, changed, Right}
+use Rattle.observer.specs.Observer.{WriteEntry, Transaction, changed}
+use Rattle.observer.proofs.Changes.{changed-same, changed-other, changed-ind}
+use Rattle.serial.specs.Statement.{Values, Right}
 use Rattle.serial.specs.Order.{Sorted}
 use Rattle.serial.proofs.Timeline.{Named}
-use Rattle.serial.proofs.Protocol.{changed-same, changed-other, changed-ind, none-some, Stamp, Due, Version, ReadEntry, Seat, State}
+use Rattle.serial.proofs.Protocol.{none-some, Stamp, Due, Version, ReadEntry, Seat, State}
 use Rattle.serial.proofs.Protocol.{free, working, checking, storing, closed, Left, Holds, Fits, Below, val, VersionOk, EntryOk, Covered, Held, SeatOk, Inv, upTo-closed}
 
 module _ (opening : Values) where

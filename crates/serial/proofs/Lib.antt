@@ -1,5 +1,5 @@
 -- The proofs of specs/: the order, then a protocol without tables (Timeline to Final), then that the rules' calls, as an observer sees them,
--- are its steps (Segments to Storing), and the theorem.
+-- are its steps (View to Storing), and the theorem.
 pub mod Order
 pub mod Timeline
 pub mod Protocol
@@ -8,9 +8,7 @@ pub mod Versions
 pub mod Seal
 pub mod Steps
 pub mod Final
-pub mod Segments
 pub mod View
-pub mod Folds
 pub mod Agree
 pub mod Release
 pub mod Working

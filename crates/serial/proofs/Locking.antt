@@ -14,17 +14,20 @@ use Rattle.rules.specs.Layout.{timeAt, row, put, phase, position, reads, writes
 use Rattle.rules.specs.Tables.{Tables, tables}
 use Rattle.rules.specs.Advance.{moved, commitTime, lockStep, timeStep, lockPhase}
 use Rattle.rules.specs.Calls.{Advance}
+use Rattle.rules.specs.declared.Answer.the-variants.{Locked, Timed}
 use Rattle.rows.specs.Fine.{cond-ind, write-item, placed-low, Fine, fine-row}
 use Rattle.rows.specs.Changed.{movedRow, not-nudged, nudge-phase, nudge-position, nudge-time}
 use Rattle.rows.specs.Becomes.{then-put, becomes-moved}
 use Rattle.rules.specs.CommitTime.{commit-kept, commit-above}
-use Rattle.serial.specs.Statement.{WriteEntry, Observer, Values, changed, seeing, onTimed, onAdvance, observe}
+use Rattle.observer.specs.Observer.{WriteEntry, Observer, onAdvance, changed, seeing, observe}
+use Rattle.observer.proofs.Entries.{writeAt, writeEntries}
+use Rattle.serial.specs.Statement.{Values}
 use Rattle.serial.proofs.Protocol.{Stamp, ReadEntry, working, checking, Fits, Below}
 use Rattle.serial.proofs.Versions.{withHolder}
 use Rattle.serial.proofs.Steps.{reseat, reversion, locks, times}
-use Rattle.serial.proofs.Segments.{seg, seg-more, seg-whole, seg-in}
-use Rattle.serial.proofs.View.{readAt, writeAt, readEntries, writeEntries, seatOf, view-early, nudged-view}
-use Rattle.serial.proofs.Agree.{Shown, Good, Ok, shown-set, seen-nudged, agree-same, agree-seeing}
+use Rattle.observer.proofs.Segments.{seg, seg-more, seg-whole, seg-in}
+use Rattle.serial.proofs.View.{entryAt, readEntries, seatOf, view-early, nudged-view}
+use Rattle.serial.proofs.Agree.{Shown, Good, Ok, shown-set, seen-nudged, agree-seeing}
 use Rattle.serial.proofs.Release.{shown-lock, abort-ok}
 
 module _ (opening : Values) (t : Tables) (b : Observer) (g : Good opening t b) (o k last : ℕ) (fi : Fine t o k 0 last) (phase12 : phase (row (t .seats) k) ≤ 2) where
@@ -42,25 +45,27 @@ module _ (opening : Values) (t : Tables) (b : Observer) (g : Good opening t b) (
 
   -- THE LOCK of the write entry at position
   lock-good : position gr < writes gr → isLocked (getD (t .words) (writeItem gr (position gr)) 0) ≡ false →
-      Good opening (tables (t .values) (set (t .words) (writeItem gr (position gr)) (withLock true (getD (t .words) (writeItem gr (position gr)) 0))) (moved (t .seats) k 2 (position gr + 1))) b
-  unfolding seatOf
+      Good opening (tables (t .values) (set (t .words) (writeItem gr (position gr)) (withLock true (getD (t .words) (writeItem gr (position gr)) 0))) (moved (t .seats) k 2 (position gr + 1)))
+      (seeing b k (onAdvance (b .seats k) (Locked (writeItem gr (position gr)))))
+  unfolding seatOf onAdvance
   lock-good l u =
       let p = position gr in
       let w = writeAt gr p in
       let word = getD (t .words) (w .item) 0 in
+      let x = onAdvance (b .seats k) (Locked (w .item)) in
       let y = withHolder (some k) (g .σ .version (w .item)) in
       let m : Shown (g .σ .version (w .item)) (getD (t .values) (w .item) 0) word = g .agree .shown (w .item) (known p l) in
       let n = nudge-position (nudge-phase (not-nudged gr (fine-row fi)) 2) (p + 1) in
       record {
         σ = reseat (reversion (g .σ) (w .item) y) k (working (readEntries gr) (seg (writeAt gr) 0 p ++ (w ∷ [])));
         inv = locks opening (g .σ) (g .inv) k (readEntries gr) (seg (writeAt gr) 0 p) w is-working (m .idle u);
-        agree = agree-same (g .agree) (tables (t .values) (set (t .words) (w .item) (withLock true word)) (moved (t .seats) k 2 (p + 1))) (changed (w .item) y (g .σ .version)) k _ (movedRow gr 2 (p + 1))
+        agree = agree-seeing (g .agree) (tables (t .values) (set (t .words) (w .item) (withLock true word)) (moved (t .seats) k 2 (p + 1))) (changed (w .item) y (g .σ .version)) k _ (movedRow gr 2 (p + 1))
             refl (length-set (t .words) (w .item) (withLock true word))
             (shown-set (g .σ .version) (t .values) (t .words) (t .values) (w .item) (withLock true word) y (g .agree .shown) (λ j d. refl) (known p l)
             (shown-lock (some k) true (g .σ .version (w .item)) (getD (t .values) (w .item) 0) word m (λ q. absurd (true≢false q))))
-            (becomes-moved (t .seats) k 2 (p + 1))
+            (becomes-moved (t .seats) k 2 (p + 1)) x
             ((λ i. working (readEntries gr) (sym (seg-more (writeAt gr) p) i)) ∙ sym (nudged-view n (b .seats k .key)))
-            (λ _. seen-nudged n (b .seats k) (b .seats k) (g .agree .seen k (fi .used)) refl refl (λ q. absurd (omega arith)) (λ q. absurd (omega arith)));
+            (λ _. seen-nudged n (b .seats k) x (g .agree .seen k (fi .used)) refl refl (λ q. absurd (omega arith)) (λ q. absurd (omega arith)));
       }
 
   -- THE TIME, all locks held
@@ -73,7 +78,7 @@ module _ (opening : Values) (t : Tables) (b : Observer) (g : Good opening t b) (
 
     fits : (e : ReadEntry) → In e (readEntries gr) → Fits (g .σ .version (e .told .item)) stamp e
     fits e i =
-        let z = seg-in (readAt gr) (reads gr) 0 e i in
+        let z = seg-in (entryAt gr) (reads gr) 0 e i in
         let c = commit-kept (t .words) gr (z .0) (omega (arith, z .2)) in
         let kept : e .wrote ≤ tc = rw (z .3) c in
         record { current = λ q. omega (arith, g .inv .versions (e .told .item) .wrote-low); kept = kept }
@@ -87,17 +92,17 @@ module _ (opening : Values) (t : Tables) (b : Observer) (g : Good opening t b) (
         let e = write≤read (getD (t .words) (writeItem gr (z .0)) 0) in
         rw (z .3) (record { key = omega (arith, m .is-upTo); time = omega (arith, m .is-wrote) })
 
-    time-good : Good opening (tables (t .values) (t .words) (put (moved (t .seats) k 3 0) k timeAt tc)) (seeing b k (onTimed (b .seats k) tc))
-    unfolding seatOf seg onTimed
+    time-good : Good opening (tables (t .values) (t .words) (put (moved (t .seats) k 3 0) k timeAt tc)) (seeing b k (onAdvance (b .seats k) (Timed tc)))
+    unfolding seatOf seg onAdvance
     time-good =
-        let x = onTimed (b .seats k) tc in
+        let x = onAdvance (b .seats k) (Timed tc) in
         let n = nudge-time (nudge-position (nudge-phase (not-nudged gr (fine-row fi)) 3) 0) tc in
         record {
           σ = reseat (g .σ) k (checking stamp [] (readEntries gr) (writeEntries gr));
           inv = times opening (g .σ) (g .inv) k stamp (readEntries gr) (writeEntries gr) (is-working ∙ rw all) refl fits below;
           agree = agree-seeing (g .agree) (tables (t .values) (t .words) (put (moved (t .seats) k 3 0) k timeAt tc)) (g .σ .version) k _ (set (movedRow gr 3 0) timeAt tc) refl refl (g .agree .shown)
               (then-put timeAt tc (omega arith) (becomes-moved (t .seats) k 3 0)) x
-              ((λ i. checking stamp [] (sym (seg-whole (readAt gr) (reads gr)) i) (writeEntries gr)) ∙ sym (nudged-view n tc))
+              ((λ i. checking stamp [] (sym (seg-whole (entryAt gr) (reads gr)) i) (writeEntries gr)) ∙ sym (nudged-view n tc))
               (λ _. seen-nudged n (b .seats k) x (g .agree .seen k (fi .used)) refl refl (λ _. refl) (λ q. absurd (omega arith)));
         }
 

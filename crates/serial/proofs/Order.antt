@@ -10,7 +10,8 @@ use native.Mathlib.Decide.{decLt}
 use borrow.Author.Tests.{eqb-true, leb-true, leb-false, eq-eqb, ne-eqb}
 use lib.Dec.{eqb}
 use Rattle.rows.specs.Fine.{cond-ind}
-use Rattle.serial.specs.Statement.{Transaction, before, placed, allPlaced, serial}
+use Rattle.observer.specs.Observer.{Transaction}
+use Rattle.serial.specs.Statement.{before, placed, allPlaced, serial}
 use Rattle.serial.specs.Order.{Sorted, withKey, SerialOrdered, OneOrder}
 
 -- where the first key is greater than k, every key is

@@ -2,33 +2,15 @@
 -- A version's number (`wrote`) is apart from its range in the serial order (`from` to `upTo`), and a transaction's place in that order (`key`)
 -- is apart from the time that its stores put into words (`time`).
 use Prim.Native.Nat.{ℕ, _≤_, _<_}
-use mathlib.Core.Path.{_≡_, refl, fun-ext}
-use mathlib.Core.Logic.{_⊎_, _≢_}
+use mathlib.Core.Path.{_≡_, refl}
+use mathlib.Core.Logic.{_⊎_}
 use mathlib.Core.Option.{Option, none, some}
 use mathlib.Core.List.{List, List·Memᴰ as In}
 use native.Mathlib.Omega.{arith}
-use borrow.Author.Tests.{eqb-true, eqb-false, eq-eqb, ne-eqb}
-use lib.Dec.{eqb}
-use Rattle.rows.specs.Fine.{cond-ind}
-use Rattle.serial.specs.Statement.{FirstRead, WriteEntry, Transaction, Values, changed, applied, Right}
+use Rattle.observer.specs.Observer.{FirstRead, WriteEntry, Transaction}
+use Rattle.serial.specs.Statement.{Values, applied, Right}
 use Rattle.serial.specs.Order.{Sorted}
 use Rattle.serial.proofs.Timeline.{Named, Distinct, upto}
-
--- a function changed at one place
-pub changed-same : {A : Type 0} (k : ℕ) (a : A) (f : ℕ → A) → changed k a f k ≡ a
-unfolding changed
-changed-same k a f = rw (eq-eqb k k refl)
-
-pub changed-other : {A : Type 0} (k : ℕ) (a : A) (f : ℕ → A) (j : ℕ) → j ≢ k → changed k a f j ≡ f j
-unfolding changed
-changed-other k a f j n = rw (ne-eqb j k n)
-
-pub changed-ind : {A : Type 0} (Q : ℕ → A → Type 0) (k : ℕ) (a : A) (f : ℕ → A) → Q k a → ((j : ℕ) → j ≢ k → Q j (f j)) → (j : ℕ) → Q j (changed k a f j)
-unfolding changed
-changed-ind Q k a f h g j = cond-ind (Q j) (eqb j k) (λ e. rw (eqb-true j k e) h) (λ e. g j (eqb-false j k e))
-
-pub changed-none : {A : Type 0} (k : ℕ) (f : ℕ → A) → changed k (f k) f ≡ f
-changed-none k f = fun-ext (changed-ind (λ j a. a ≡ f j) k (f k) f refl (λ j n. refl))
 
 -- an option is none or some, and of one thing
 pub none-some : {A : Type 0} (o : Option A) (a : A) → o ≡ none → o ≡ some a → ⊥

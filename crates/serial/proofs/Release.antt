@@ -9,7 +9,7 @@ use native.Mathlib.Omega.{arith}
 use native.Mathlib.Numerals.{add-one}
 use borrow.Author.Tests.{eqb-true, eqb-false}
 use lib.Dec.{eqb}
-use lib.ListN.{length, getD, length-set}
+use lib.ListN.{length, getD}
 use Rattle.clock.specs.Word.{withLock}
 use Rattle.clock.specs.Laws.{withLock-is}
 use Rattle.rules.specs.Layout.{rowWidth, row, phase, position, writes, writeItem}
@@ -22,18 +22,17 @@ use Rattle.rules.specs.declared.Answer.the-variants.{Dropped, Aborted}
 use Rattle.rows.specs.Fine.{cond-ind, write-item, placed-low, Fine, fine-row}
 use Rattle.rows.specs.Changed.{freeRow}
 use Rattle.rows.specs.Becomes.{becomes-freed}
-use Rattle.serial.specs.Statement.{Observer, Values, onAdvance, observe}
-use Rattle.serial.proofs.Protocol.{Version, ReadEntry, State, free, working, Inv, changed-same, changed-other}
+use Rattle.rows.specs.Released.{length-released}
+use Rattle.observer.specs.Observer.{Observer, unseen, onAdvance, onAbandon, seeing, observe}
+use Rattle.observer.proofs.Changes.{changed-same, changed-other}
+use Rattle.serial.specs.Statement.{Values}
+use Rattle.serial.proofs.Protocol.{Version, ReadEntry, State, free, working, Inv}
 use Rattle.serial.proofs.Versions.{withHolder}
 use Rattle.serial.proofs.Steps.{reseat, reversion, retreats, unlocks, leaves}
-use Rattle.serial.proofs.Segments.{seg, seg-next, seg-end, seg-whole}
-use Rattle.serial.proofs.View.{writeAt, readEntries, writeEntries, seatOf, view-early, view-checking}
+use Rattle.observer.proofs.Segments.{seg, seg-next, seg-end, seg-whole}
+use Rattle.observer.proofs.Entries.{writeAt, writeEntries}
+use Rattle.serial.proofs.View.{readEntries, seatOf, view-early, view-checking}
 use Rattle.serial.proofs.Agree.{Shown, AllShown, Good, Ok, shown-set, sized-same, agree-others}
-
-length-released : (words g : List ℕ) (n : ℕ) → length (released words g n) ≡ length words
-unfolding released
-length-released words g zero = refl
-length-released words g (suc n) = length-set (released words g n) (writeItem g n) _ ∙ length-released words g n
 
 -- the word of a version whose lock is given, or given back
 pub shown-lock : (o : Option ℕ) (l : Bool) (x : Version) (v word : ℕ) → Shown x v word → (l ≡ false → o ≡ none) → Shown (withHolder o x) v (withLock l word)
@@ -83,7 +82,7 @@ module _ (opening : Values) (values words g : List ℕ) (k m : ℕ) (rs : List R
 gone : (opening : Values) (t : Tables) (b : Observer) (g : Good opening t b) (k n : ℕ) (rs : List ReadEntry) (σ : State) → Inv opening σ → AllShown (σ .version) (t .values) (t .words) →
     σ .order ≡ g .σ .order → ((j : ℕ) → j ≢ k → σ .seat j ≡ g .σ .seat j) → σ .seat k ≡ working rs (seg (writeAt (row (t .seats) k)) 0 n) →
     ((i : ℕ) → i < n → writeItem (row (t .seats) k) i < length (t .words)) → length (row (t .seats) k) ≡ rowWidth →
-    Good opening (tables (t .values) (released (t .words) (row (t .seats) k) n) (freed (t .seats) k)) b
+    Good opening (tables (t .values) (released (t .words) (row (t .seats) k) n) (freed (t .seats) k)) (seeing b k unseen)
 unfolding seatOf
 gone opening t b g k n rs σ inv shown o other e known size =
     let r = row (t .seats) k in
@@ -92,9 +91,9 @@ gone opening t b g k n rs σ inv shown o other e known size =
     record {
       σ = reseat (p .to) k free;
       inv = leaves opening (p .to) (p .inv) k rs (p .left ∙ rw (seg-end (writeAt r) n n (omega arith)));
-      agree = agree-others t _ (p .to) b b k (λ j d. p .others j d ∙ other j d ∙ g .agree .rows j) (g .agree .seen) (p .to .order) (p .to .version) free freeRow
+      agree = agree-others t _ (p .to) b (seeing b k unseen) k (λ j d. p .others j d ∙ other j d ∙ g .agree .rows j) (g .agree .seen) (p .to .order) (p .to .version) free freeRow
           (sized-same (tables (t .values) (released (t .words) r n) (freed (t .seats) k)) (g .agree .sized) refl (length-released (t .words) r n) (be .size)) (p .shown) be
-          refl (λ d. absurd (d refl)) (λ j d. refl) (p .order ∙ o ∙ g .agree .order) (g .agree .by-time);
+          refl (λ d. absurd (d refl)) (λ j d. changed-other k unseen (b .seats) j d) (p .order ∙ o ∙ g .agree .order) (g .agree .by-time);
     }
 
 -- LET GO, in phases 1 to 3
@@ -105,23 +104,23 @@ module _ (opening : Values) (t : Tables) (b : Observer) (g : Good opening t b) (
   known : (i : ℕ) → i < writes gr → writeItem gr i < length (t .words)
   known i l = write-item gr (length (t .words)) (fi .sound) i l
 
-  early : phase gr ≤ 2 → Good opening (tables (t .values) (released (t .words) gr (position gr)) (freed (t .seats) k)) b
+  early : phase gr ≤ 2 → Good opening (tables (t .values) (released (t .words) gr (position gr)) (freed (t .seats) k)) (seeing b k unseen)
   early l =
       let low : position gr ≤ writes gr = placed-low gr (length (t .words)) (fi .sound) (fi .used) l in
       gone opening t b g k (position gr) (readEntries gr) (g .σ) (g .inv) (g .agree .shown) refl (λ j n. refl)
       (g .agree .rows k ∙ view-early (b .seats k .key) gr (fi .used) l) (λ i m. known i (omega arith)) (fine-row fi)
 
-  checked : phase gr ≡ 3 → Good opening (tables (t .values) (released (t .words) gr (writes gr)) (freed (t .seats) k)) b
+  checked : phase gr ≡ 3 → Good opening (tables (t .values) (released (t .words) gr (writes gr)) (freed (t .seats) k)) (seeing b k unseen)
   checked e =
       let s = working [] (writeEntries gr) in
       gone opening t b g k (writes gr) [] (reseat (g .σ) k s)
       (retreats opening (g .σ) (g .inv) k _ _ _ (writeEntries gr) (g .agree .rows k ∙ view-checking (b .seats k .key) gr e))
       (g .agree .shown) refl (λ j n. changed-other k s (g .σ .seat) j n) (changed-same k s (g .σ .seat)) known (fine-row fi)
 
-  let-go : (a : Answer) → phase gr ≤ 3 → Good opening (letGo t k a .tables) b
+  let-go : (a : Answer) → phase gr ≤ 3 → Good opening (letGo t k a .tables) (seeing b k unseen)
   unfolding letGo heldLocks
   let-go a l =
-      cond-ind (λ (n : ℕ). Good opening (tables (t .values) (released (t .words) gr n) (freed (t .seats) k)) b) (eqb (phase gr) 3)
+      cond-ind (λ (n : ℕ). Good opening (tables (t .values) (released (t .words) gr n) (freed (t .seats) k)) (seeing b k unseen)) (eqb (phase gr) 3)
       (λ e. checked (eqb-true _ _ e)) (λ e. let d : phase gr ≢ 3 = eqb-false _ _ e in early (omega arith))
 
   pub abort-ok : (why : ℕ) → phase gr ≤ 3 → Ok opening b (Advance o k) (letGo t k (Aborted why))
@@ -129,5 +128,5 @@ module _ (opening : Values) (t : Tables) (b : Observer) (g : Good opening t b) (
   abort-ok why l = let-go (Aborted why) l
 
   pub drop-ok : phase gr ≤ 3 → Ok opening b (Abandon o k) (letGo t k (Dropped k))
-  unfolding letGo observe
+  unfolding letGo observe onAbandon
   drop-ok l = let-go (Dropped k) l

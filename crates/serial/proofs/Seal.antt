@@ -5,7 +5,8 @@ use mathlib.Core.Logic.{_⊎_, inl, inr, ⊎-elim, _≢_}
 use mathlib.Core.Option.{none, some}
 use mathlib.Core.List.{List, [], map, List·Memᴰ as In, Memᴰ·of-map as in-map}
 use native.Mathlib.Omega.{arith}
-use Rattle.serial.specs.Statement.{FirstRead, WriteEntry, Transaction, Values, changed, applied, Right, placed}
+use Rattle.observer.specs.Observer.{FirstRead, WriteEntry, Transaction, changed}
+use Rattle.serial.specs.Statement.{Values, applied, Right, placed}
 use Rattle.serial.specs.Order.{Sorted}
 use Rattle.serial.proofs.Order.{in-placed, sorted-placed}
 use Rattle.serial.proofs.Timeline.{Named, Absent, find, distinct-same, written-named, upto-below, upto-absent, upto-above, right-placed}

@@ -5,9 +5,11 @@ use mathlib.Core.Logic.{inl, inr, ⊎-elim, _≢_}
 use mathlib.Core.Option.{none, some}
 use mathlib.Core.List.{List, [], _∷_, _++_, List·Memᴰ as In, List·Memᴰ·head as here, List·Memᴰ·tail as there, List·Memᴰ·cases-cons as uncons, List·Memᴰ·append-cases as append-cases, List·Memᴰ·eq-of-singleton as eq-of-singleton, List·Memᴰ·not-nil as not-nil, Memᴰ·append-left as append-left, Memᴰ·append-right as append-right}
 use native.Mathlib.Omega.{arith}
-use Rattle.serial.specs.Statement.{WriteEntry, Transaction, Values, changed}
+use Rattle.observer.specs.Observer.{WriteEntry, Transaction, changed}
+use Rattle.observer.proofs.Changes.{changed-same, changed-other, changed-ind}
+use Rattle.serial.specs.Statement.{Values}
 use Rattle.serial.proofs.Timeline.{Named, Distinct, distinct-more}
-use Rattle.serial.proofs.Protocol.{Stamp, Version, ReadEntry, Seat, State, free, working, checking, storing, Holds, Fits, Below, changed-same, changed-other, changed-ind, none-some, some-same, VersionOk, EntryOk, Covered, WorkingOk, CheckingOk, StoringOk, Inv, upTo-closed}
+use Rattle.serial.proofs.Protocol.{Stamp, Version, ReadEntry, Seat, State, free, working, checking, storing, Holds, Fits, Below, none-some, some-same, VersionOk, EntryOk, Covered, WorkingOk, CheckingOk, StoringOk, Inv, upTo-closed}
 use Rattle.serial.proofs.Growth.{stays-other, entry-later, keep-holds, step-seat, grows-one, step-version, step-unheld}
 use Rattle.serial.proofs.Versions.{withHolder, extended, stored, quiet, holder-ok, holder-grows, extended-ok, extended-grows, stored-ok, stored-grows}
 

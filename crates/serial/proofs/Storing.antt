@@ -14,16 +14,19 @@ use Rattle.rules.specs.Tables.{Tables, tables}
 use Rattle.rules.specs.Plan.{freed}
 use Rattle.rules.specs.Advance.{effect, storeStep, doneStep, storePhase}
 use Rattle.rules.specs.Calls.{Advance}
+use Rattle.rules.specs.declared.Answer.the-variants.{Stored}
 use Rattle.rows.specs.Fine.{cond-ind, write-item, time-top, Fine, fine-row}
 use Rattle.rows.specs.Changed.{freeRow, Nudged, not-nudged, nudge-position}
 use Rattle.rows.specs.Becomes.{becomes-put, becomes-freed}
-use Rattle.serial.specs.Statement.{Observer, Values, changed, seeing, applied, onStored, onAdvance, observe}
+use Rattle.observer.specs.Observer.{Observer, unseen, onAdvance, changed, seeing, observe}
+use Rattle.observer.proofs.Entries.{writeAt}
+use Rattle.serial.specs.Statement.{Values, applied}
 use Rattle.serial.proofs.Protocol.{Stamp, free, storing}
 use Rattle.serial.proofs.Versions.{stored}
 use Rattle.serial.proofs.Steps.{reseat, reversion, stores, finishes}
-use Rattle.serial.proofs.Segments.{seg, seg-next, seg-end}
-use Rattle.serial.proofs.View.{writeAt, seatOf, view-storing, nudged-view}
-use Rattle.serial.proofs.Agree.{Shown, SeenOk, Good, stampAt, keyed-at, Ok, shown-set, seen-nudged, agree-same, agree-seeing}
+use Rattle.observer.proofs.Segments.{seg, seg-next, seg-end}
+use Rattle.serial.proofs.View.{seatOf, view-storing, nudged-view}
+use Rattle.serial.proofs.Agree.{Shown, SeenOk, Good, stampAt, keyed-at, Ok, shown-set, seen-nudged, agree-seeing}
 
 module _ (opening : Values) (t : Tables) (b : Observer) (g : Good opening t b) (o k last : ℕ) (fi : Fine t o k 0 last) (four : phase (row (t .seats) k) ≡ 4) where
   abbrev gr : List ℕ
@@ -52,12 +55,12 @@ module _ (opening : Values) (t : Tables) (b : Observer) (g : Good opening t b) (
     abbrev v : ℕ
     v = effect (writeValue gr (position gr)) (getD (t .values) (writeItem gr (position gr)) 0)
 
-    store-good : Good opening (tables (set (t .values) item v) (set (t .words) item (fresh (time gr))) (put (t .seats) k positionAt (position gr + 1))) (seeing b k (onStored (b .seats k)))
-    unfolding seatOf onStored
+    store-good : Good opening (tables (set (t .values) item v) (set (t .words) item (fresh (time gr))) (put (t .seats) k positionAt (position gr + 1))) (seeing b k (onAdvance (b .seats k) (Stored item)))
+    unfolding seatOf onAdvance
     store-good =
         let p = position gr in
         let w = writeAt gr p in
-        let x = onStored (b .seats k) in
+        let x = onAdvance (b .seats k) (Stored item) in
         let y = stored stamp w (g .σ .version item) in
         let rest = seg (writeAt gr) (p + 1) (writes gr - (p + 1)) in
         let n : Nudged gr (set gr positionAt (p + 1)) 4 (p + 1) (time gr) = rw four at (nudge-position (not-nudged gr (fine-row fi)) (p + 1)) in
@@ -82,13 +85,13 @@ module _ (opening : Values) (t : Tables) (b : Observer) (g : Good opening t b) (
         }
 
   -- DONE, all stored
-  done-good : writes gr ≤ position gr → Good opening (tables (t .values) (t .words) (freed (t .seats) k)) b
+  done-good : writes gr ≤ position gr → Good opening (tables (t .values) (t .words) (freed (t .seats) k)) (seeing b k unseen)
   unfolding seatOf
   done-good l =
       record {
         σ = reseat (g .σ) k free;
         inv = finishes opening (g .σ) (g .inv) k stamp (is-storing ∙ rw (seg-end (writeAt gr) (position gr) (writes gr) l));
-        agree = agree-same (g .agree) (tables (t .values) (t .words) (freed (t .seats) k)) (g .σ .version) k free freeRow refl refl (g .agree .shown) (becomes-freed (t .seats) k (fine-row fi)) refl (λ d. absurd (d refl));
+        agree = agree-seeing (g .agree) (tables (t .values) (t .words) (freed (t .seats) k)) (g .σ .version) k free freeRow refl refl (g .agree .shown) (becomes-freed (t .seats) k (fine-row fi)) unseen refl (λ d. absurd (d refl));
       }
 
   pub store-phase-ok : Ok opening b (Advance o k) (storePhase t k)

@@ -2,7 +2,7 @@
 use Prim.Native.Nat.{ℕ, zero, suc, _-_, _<_}
 use mathlib.Core.Path.{_≡_, refl, sym, ap, _∙_}
 use mathlib.Core.Logic.{⊎-elim}
-use mathlib.Core.Bool.{true, cond, true≢false}
+use mathlib.Core.Bool.{true, cond}
 use mathlib.Core.List.{List, [], _∷_, List·Memᴰ as In, List·Memᴰ·head as here, List·Memᴰ·tail as there, List·Memᴰ·cases-cons as uncons, List·Memᴰ·not-nil as not-nil}
 use native.Mathlib.Omega.{arith}
 use native.Mathlib.Decide.{decLt}
@@ -21,11 +21,14 @@ use Rattle.rules.specs.Calls.{Call, Setup, Open, Read, Write, Advance, Abandon,
 use Rattle.rows.specs.Fine.{cond-ind, Fine, fine}
 use Rattle.rows.specs.Becomes.{row-past}
 use Rattle.rows.specs.Begin.{begun, setup-ready, length-laid, laid-row}
-use Rattle.serial.specs.Statement.{Observer, Values, nothing, begins, observe, observed, AllStored, valuesOf, Serializable, NoSetup, SomeSetup, SerialOrder, openingFrom, SinceLastSetup, allPlaced}
+use Rattle.observer.specs.Observer.{Observer, begunWith, nothing, observe, observed, isSetup, begins}
+use Rattle.observer.proofs.Changes.{begins-anew, begins-is}
+use Rattle.serial.specs.Statement.{Values, AllStored, valuesOf, Serializable, NoSetup, SomeSetup, SerialOrder, openingFrom, SinceLastSetup, allPlaced}
 use Rattle.serial.proofs.Protocol.{Left}
 use Rattle.serial.proofs.Final.{begin, begin-inv, inv-final}
-use Rattle.serial.proofs.Segments.{seg-in}
-use Rattle.serial.proofs.View.{readAt, writeAt, seatOf, view}
+use Rattle.observer.proofs.Segments.{seg-in}
+use Rattle.observer.proofs.Entries.{writeAt}
+use Rattle.serial.proofs.View.{entryAt, seatOf, view}
 use Rattle.serial.proofs.Agree.{Good, Ok, refused, unless-ok, sized-same}
 use Rattle.serial.proofs.Release.{drop-ok}
 use Rattle.serial.proofs.Working.{open-ok, read-ok, write-ok}
@@ -34,10 +37,10 @@ use Rattle.serial.proofs.Checking.{check-phase-ok}
 use Rattle.serial.proofs.Storing.{store-phase-ok}
 
 -- SETUP that is not refused
-setup-good : (t : Tables) (start : ℕ) (plan : List ℕ) → setupRefusal t start plan ≡ 0 →
-    Good (valuesOf (t .values)) (tables (t .values) (replicate (length (t .words)) (fresh start)) (laid (replicate (length (t .seats)) 0) plan planWidth)) nothing
+setup-good : (t : Tables) (start : ℕ) (plan told : List ℕ) → setupRefusal t start plan ≡ 0 →
+    Good (valuesOf (t .values)) (tables (t .values) (replicate (length (t .words)) (fresh start)) (laid (replicate (length (t .seats)) 0) plan planWidth)) (begunWith told)
 unfolding seatOf allPlaced
-setup-good t start plan e =
+setup-good t start plan told e =
     let h = begun t start plan e in
     let is = fresh-is start (h .start-in) in
     let n = length (t .words) in
@@ -57,9 +60,9 @@ setup-good t start plan e =
       };
     }
 
-setup-began : (t : Tables) (start : ℕ) (plan : List ℕ) → kind (setup t start plan .answer) ≡ ready → Good (valuesOf (t .values)) (setup t start plan .tables) nothing
+setup-began : (t : Tables) (start : ℕ) (plan told : List ℕ) → kind (setup t start plan .answer) ≡ ready → Good (valuesOf (t .values)) (setup t start plan .tables) (begunWith told)
 unfolding setup
-setup-began t start plan r = let e = setup-ready t start plan r in rw (eq-eqb (setupRefusal t start plan) 0 e) (setup-good t start plan e)
+setup-began t start plan told r = let e = setup-ready t start plan r in rw (eq-eqb (setupRefusal t start plan) 0 e) (setup-good t start plan told e)
 
 -- ADVANCE AND ABANDON, by the row's phase
 module _ (opening : Values) (t : Tables) (b : Observer) (g : Good opening t b) (o k : ℕ) where
@@ -91,10 +94,10 @@ abbrev Went : List ℕ → Tables → Observer → Call → Outcome → Type 0
 Went values t b c z = Good (valuesOf (cond (begins c (z .answer)) (t .values) values)) (z .tables) (observe b c (z .answer))
 
 call-good : (values : List ℕ) (t : Tables) (b : Observer) → Good (valuesOf values) t b → (c : Call) → Went values t b c (step t c)
-unfolding step begins
+unfolding step isSetup
 call-good values t b g (Setup start plan) =
     unfold setup observe in
-    cond-ind (Went values t b (Setup start plan)) (eqb (setupRefusal t start plan) 0) (λ e. setup-good t start plan (eqb-true _ _ e)) (λ _. g)
+    cond-ind (Went values t b (Setup start plan)) (eqb (setupRefusal t start plan) 0) (λ e. setup-good t start plan plan (eqb-true _ _ e)) (λ _. g)
 call-good values t b g (Open o) = open-ok (valuesOf values) t b g o
 call-good values t b g (Read o k item) = read-ok (valuesOf values) t b g o k item
 call-good values t b g (Write o k item v) = write-ok (valuesOf values) t b g o k item v
@@ -103,13 +106,14 @@ call-good values t b g (Abandon o k) = abandon-ok (valuesOf values) t b g o k
 
 -- the first Setup may find tables of any contents
 first-good : (t : Tables) (b : Observer) (c : Call) → begins c (step t c .answer) ≡ true → Good (valuesOf (t .values)) (step t c .tables) (observe b c (step t c .answer))
-unfolding step begins observe
-first-good t b (Setup start plan) q = rw q (setup-began t start plan (eqb-true _ _ q))
-first-good t b (Open o) q = absurd (true≢false (sym q))
-first-good t b (Read o k item) q = absurd (true≢false (sym q))
-first-good t b (Write o k item v) q = absurd (true≢false (sym q))
-first-good t b (Advance o k) q = absurd (true≢false (sym q))
-first-good t b (Abandon o k) q = absurd (true≢false (sym q))
+unfolding step isSetup
+first-good t b c q =
+    let z = begins-is c (step t c .answer) q in
+    rw (z .2) (first (z .0) (z .1) (rw (z .2) at (z .3)))
+  where
+    first : (start : ℕ) (plan : List ℕ) → kind (setup t start plan .answer) ≡ ready →
+        Good (valuesOf (t .values)) (setup t start plan .tables) (observe b (Setup start plan) (setup t start plan .answer))
+    first start plan r = rw (begins-anew b start plan _ r) (setup-began t start plan plan r)
 
 -- ANY CALLS
 calls-good : (cs : List Call) (values : List ℕ) (t : Tables) (b : Observer) → Good (valuesOf values) t b → Good (valuesOf (openingFrom values t cs)) (run t cs) (observed b (history t cs))
@@ -142,7 +146,7 @@ left-row : (n : ℕ) (g : List ℕ) (item : ℕ) → Left (view n g) item → (p
 unfolding seatOf
 left-row n g item = go (phase g)
   where
-    go : (ph : ℕ) → Left (seatOf n ph (position g) (reads g) (writes g) (time g) (readAt g) (writeAt g)) item → (ph ≡ 4) × (position g < writes g)
+    go : (ph : ℕ) → Left (seatOf n ph (position g) (reads g) (writes g) (time g) (entryAt g) (writeAt g)) item → (ph ≡ 4) × (position g < writes g)
     go zero z = absurd z
     go (suc zero) z = absurd z
     go (suc (suc zero)) z = absurd z
@@ -173,7 +177,7 @@ unfolding SerialOrder
 serial-order t start plan r cs n =
     let u : Tables = setup t start plan .tables in
     promised (valuesOf (t .values)) (run u cs) (observed nothing (history u cs))
-    (rw (opening-same cs (t .values) u n) at (calls-good cs (t .values) u nothing (setup-began t start plan r)))
+    (rw (opening-same cs (t .values) u n) at (calls-good cs (t .values) u nothing (setup-began t start plan [] r)))
 
 pub since-last-setup : SinceLastSetup
 unfolding SinceLastSetup

@@ -10,7 +10,8 @@ use native.Mathlib.Decide.{ℕ-discrete}
 use borrow.Author.Tests.{eq-eqb, ne-eqb, le-leb, lt-leb}
 use lib.Dec.{leb}
 use Rattle.rows.specs.Fine.{cond-ind}
-use Rattle.serial.specs.Statement.{FirstRead, WriteEntry, Transaction, Values, applied, written, after, outcome, Right, before, placed}
+use Rattle.observer.specs.Observer.{FirstRead, WriteEntry, Transaction}
+use Rattle.serial.specs.Statement.{Values, applied, written, after, outcome, Right, before, placed}
 use Rattle.serial.specs.Order.{Sorted}
 use Rattle.serial.proofs.Order.{all-later, before-yes, before-no}
 

@@ -4,7 +4,8 @@ use mathlib.Core.Path.{_≡_, refl, _∙_}
 use mathlib.Core.Option.{Option, none, some}
 use mathlib.Core.List.{List}
 use native.Mathlib.Omega.{arith}
-use Rattle.serial.specs.Statement.{WriteEntry, Transaction, Values, applied}
+use Rattle.observer.specs.Observer.{WriteEntry, Transaction}
+use Rattle.serial.specs.Statement.{Values, applied}
 use Rattle.serial.proofs.Protocol.{Stamp, Due, Version, closed, none-some, val, VersionOk}
 use Rattle.serial.proofs.Growth.{Grows}
 

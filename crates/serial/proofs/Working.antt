@@ -1,11 +1,11 @@
 -- Open, Read and Write are steps of the protocol, and the observer sees of them what the row holds.
 use Prim.Native.Nat.{ℕ, _≤_, _<_}
-use mathlib.Core.Path.{_≡_, refl, sym, ap, _∙_}
-use mathlib.Core.Bool.{Bool, true, false, _||_}
-use mathlib.Core.List.{List, [], _∷_, _++_, map, map-append}
+use mathlib.Core.Path.{_≡_, refl, sym, _∙_}
+use mathlib.Core.Bool.{true, false, _||_}
+use mathlib.Core.List.{List, [], _∷_, _++_}
 use native.Mathlib.Omega.{arith}
 use borrow.Author.Tests.{eqb-true, leb-false, ltb-true}
-use lib.Dec.{eqb, ltb, leb}
+use lib.Dec.{ltb, leb}
 use lib.ListN.{length, getD}
 use Rattle.clock.specs.Word.{isLocked, writeTime, readTime}
 use Rattle.rules.specs.Layout.{seatCount, rowWidth, mostReads, mostWrites, phaseAt, positionAt, writeValueAt, row, put, phase, position, reads, writes}
@@ -13,39 +13,40 @@ use Rattle.rules.specs.Places.{length-row}
 use Rattle.rules.specs.Tables.{Tables, tables}
 use Rattle.rules.specs.Refusals.{refusal}
 use Rattle.rules.specs.Plan.{openRefusal, isFree, freeSeat, opened, openSeat}
-use Rattle.rules.specs.Work.{readNames, writeNames, readOf, writeOf, above, placeOf, readNoted, firstRead, readIn, read, placed, writeIn, write}
+use Rattle.rules.specs.Work.{readOf, writeOf, above, placeOf, readNoted, firstRead, readIn, read, placed, writeIn, write}
 use Rattle.rules.specs.Calls.{Open, Read, Write}
+use Rattle.rules.specs.declared.Answer.the-variants.{Value, Noted}
 use Rattle.rows.specs.Search.{first-hit, first-le}
 use Rattle.rows.specs.Fine.{cond-ind, first-none, Sized, sized-of, placed-one, Fine, fine, fine-row}
 use Rattle.rows.specs.FreeSeat.{seat-found}
 use Rattle.rows.specs.Changed.{openedRow, notedRow, noted-row, placedRow, placed-row}
 use Rattle.rows.specs.Becomes.{Becomes, becomes-put, becomes-opened, becomes-noted, becomes-placed}
-use Rattle.serial.specs.Statement.{FirstRead, WriteEntry, Seen, Observer, Values, unseen, seeing, isRead, isWritten, isKnown, onRead, renewed, inserted, onWrite, observe}
-use Rattle.serial.proofs.Protocol.{working, changed-none}
-use Rattle.serial.proofs.Seal.{told}
+use Rattle.observer.specs.Observer.{Seen, Observer, givenTo, isKnown, onRead, onWrite, seeing, observe}
+use Rattle.observer.proofs.Changes.{seeing-same}
+use Rattle.observer.proofs.Segments.{seg}
+use Rattle.observer.proofs.Folds.{SameFront, renewed-front, placed-front}
+use Rattle.observer.proofs.Shows.{Shows, sees-known, read-known, read-shows, renewed-shows, placed-shows}
+use Rattle.serial.specs.Statement.{Values}
+use Rattle.serial.proofs.Protocol.{working}
 use Rattle.serial.proofs.Steps.{reseat, entryOf, opens, reads as step-reads, rests}
-use Rattle.serial.proofs.Segments.{seg, has-any, seg-map}
-use Rattle.serial.proofs.View.{readAt, writeAt, readEntries, writeEntries, seatOf, view-working, noted-readEntries, noted-writeEntries}
-use Rattle.serial.proofs.Folds.{SameFront, front-reads, renewed-front, renewed-writes, placed-front, placed-writes}
+use Rattle.serial.proofs.View.{readEntries, seatOf, view-working, noted-readEntries, front-entries}
 use Rattle.serial.proofs.Agree.{Shown, SeenOk, Good, Ok, refused, unless-ok, agree-seeing}
 
-or-left : (a b : Bool) → a ≡ true → a || b ≡ true
-or-left a b e = rw e
-
 -- a row in phase 1 has neither key nor stores to come
-seen-working : (g : List ℕ) (x : Seen) → phase g ≡ 1 → map told (readEntries g) ≡ x .reads → writeEntries g ≡ x .writes → SeenOk g x
-seen-working g x one a b = record { is-reads = a; is-writes = b; is-key = λ l. absurd (omega arith); is-left = λ e. absurd (omega arith) }
+seen-working : (g : List ℕ) (x : Seen) → phase g ≡ 1 → Shows g x → SeenOk g x
+seen-working g x one z = record { shows = z; is-key = λ l. absurd (omega arith); is-left = λ e. absurd (omega arith) }
 
 module _ (opening : Values) (t : Tables) (b : Observer) (g : Good opening t b) where
   -- OPEN: the lowest free seat is free
-  opened-good : (k o : ℕ) → Sized t → k < seatCount → phase (row (t .seats) k) ≡ 0 → Good opening (tables (t .values) (t .words) (opened (t .seats) k o)) (seeing b k unseen)
+  opened-good : (k o : ℕ) → Sized t → k < seatCount → phase (row (t .seats) k) ≡ 0 → Good opening (tables (t .values) (t .words) (opened (t .seats) k o)) (seeing b k (givenTo o))
   unfolding seatOf seg
   opened-good k o z l e =
       record {
         σ = reseat (g .σ) k (working [] []);
         inv = opens opening (g .σ) (g .inv) k (g .agree .rows k ∙ rw e);
         agree = agree-seeing (g .agree) (tables (t .values) (t .words) (opened (t .seats) k o)) (g .σ .version) k (working [] []) (openedRow o) refl refl (g .agree .shown)
-            (becomes-opened (t .seats) k o (length-row (t .seats) k (z .rows) l)) unseen refl (λ _. seen-working (openedRow o) unseen refl refl refl);
+            (becomes-opened (t .seats) k o (length-row (t .seats) k (z .rows) l)) (givenTo o) refl
+            (λ _. seen-working (openedRow o) (givenTo o) refl (record { is-reads = refl; is-writes = refl }));
       }
 
   pub open-ok : (o : ℕ) → Ok opening b (Open o) (openSeat t o)
@@ -74,36 +75,28 @@ module _ (opening : Values) (t : Tables) (b : Observer) (g : Good opening t b) (
   seen : SeenOk gr (b .seats k)
   seen = g .agree .seen k (fi .used)
 
-  -- the observer has seen what the row names
-  sees-write : isWritten (b .seats k) item ≡ ltb (writeOf gr item) (writes gr)
-  unfolding writeOf writeNames
-  sees-write = rw (← seen .is-writes) (has-any (λ (w : WriteEntry). eqb (w .item) item) (writeAt gr) (writes gr))
-
-  sees-read : isRead (b .seats k) item ≡ ltb (readOf gr item) (reads gr)
-  unfolding readOf readNames
-  sees-read =
-      rw (← seen .is-reads, seg-map told (readAt gr) (reads gr) 0) (has-any (λ (e : FirstRead). eqb (e .item) item) (λ i. readAt gr i .told) (reads gr))
+  -- the observer knows the records that the row names
+  known : isKnown (b .seats k) item ≡ (ltb (writeOf gr item) (writes gr) || ltb (readOf gr item) (reads gr))
+  known = sees-known gr (b .seats k) (seen .shows) item
 
   -- READ of a record that is written or read before: nothing new is seen
-  seen-before : (v : ℕ) → isKnown (b .seats k) item ≡ true → Good opening t (seeing b k (onRead (b .seats k) item v))
-  unfolding onRead
-  seen-before v e = rw (e, changed-none k (b .seats)) g
+  seen-before : (v : ℕ) → isKnown (b .seats k) item ≡ true → Good opening t (seeing b k (onRead (b .seats k) item (Value v)))
+  seen-before v e = rw (seeing-same b k _ (read-known gr (b .seats k) (seen .shows) item v e)) g
 
   -- READ of another, with room for an entry
   noted-good : isKnown (b .seats k) item ≡ false → reads gr < mostReads →
-      Good opening (tables (t .values) (t .words) (readNoted (t .seats) k item (getD (t .values) item 0) (getD (t .words) item 0))) (seeing b k (onRead (b .seats k) item (getD (t .values) item 0)))
-  unfolding onRead
+      let v = getD (t .values) item 0 in
+      Good opening (tables (t .values) (t .words) (readNoted (t .seats) k item v (getD (t .words) item 0))) (seeing b k (onRead (b .seats k) item (Value v)))
   noted-good unknown few =
       let v = getD (t .values) item 0 in
       let word = getD (t .words) item 0 in
       let h = notedRow gr item v (writeTime word) (readTime word) in
       let n = noted-row gr item v (writeTime word) (readTime word) size (omega arith) in
       let m : Shown (g .σ .version item) v word = g .agree .shown item (fi .item-in) in
-      let x : Seen = record { reads = b .seats k .reads ++ (record { item = item; value = v } ∷ []); writes = b .seats k .writes; key = b .seats k .key; left = b .seats k .left } in
+      let x : Seen = onRead (b .seats k) item (Value v) in
       let ph : phase h ≡ 1 = n .before phaseAt (omega arith) (omega arith) ∙ one in
       let po : position h ≡ 0 = n .before positionAt (omega arith) (omega arith) ∙ at-start in
-      rw unknown
-      (record {
+      record {
         σ = reseat (g .σ) k (working (readEntries gr ++ (entryOf item (g .σ .version item) ∷ [])) []);
         inv = step-reads opening (g .σ) (g .inv) k (readEntries gr) [] item is-working;
         agree = agree-seeing (g .agree) (tables (t .values) (t .words) (readNoted (t .seats) k item v word)) (g .σ .version) k _ h refl refl (g .agree .shown)
@@ -111,10 +104,8 @@ module _ (opening : Values) (t : Tables) (b : Observer) (g : Good opening t b) (
             ((λ i. working (readEntries gr ++ (record { told = record { item = item; value = m .is-value i }; wrote = m .is-wrote i; upTo = m .is-upTo i } ∷ [])) [])
             ∙ (λ i. working (sym (noted-readEntries n few) i) [])
             ∙ sym (view-working (x .key) h ph po))
-            (λ _. seen-working h x ph
-            (ap (map told) (noted-readEntries n few) ∙ map-append told (readEntries gr) _ ∙ ap (λ (l : List FirstRead). l ++ (record { item = item; value = v } ∷ [])) (seen .is-reads))
-            (noted-writeEntries n few ∙ seen .is-writes));
-      })
+            (λ _. seen-working h x ph (read-shows gr (b .seats k) (seen .shows) item h v (writeTime word) (readTime word) n few unknown));
+      }
 
   first-ok : isKnown (b .seats k) item ≡ false → Ok opening b (Read o k item) (firstRead t k item)
   unfolding firstRead observe
@@ -124,18 +115,18 @@ module _ (opening : Values) (t : Tables) (b : Observer) (g : Good opening t b) (
       (λ _. noted-good unknown (leb-false mostReads (reads gr) few)))
 
   pub read-in-ok : Ok opening b (Read o k item) (readIn t k item)
-  unfolding readIn observe isKnown
+  unfolding readIn observe
   read-in-ok =
       cond-ind (Ok opening b (Read o k item)) (ltb (writeOf gr item) (writes gr))
-      (λ a. seen-before _ (or-left (isWritten (b .seats k) item) (isRead (b .seats k) item) (sees-write ∙ a)))
-      (λ a. cond-ind (Ok opening b (Read o k item)) (ltb (readOf gr item) (reads gr)) (λ c. seen-before _ (rw (sees-write ∙ a, sees-read ∙ c))) (λ c. first-ok (rw (sees-write ∙ a, sees-read ∙ c))))
+      (λ a. seen-before _ (known ∙ rw a))
+      (λ a. cond-ind (Ok opening b (Read o k item)) (ltb (readOf gr item) (reads gr)) (λ c. seen-before _ (known ∙ rw (a, c))) (λ c. first-ok (known ∙ rw (a, c))))
 
   -- WRITE: the row's write entries change, and its reads do not
-  written-good : (v : ℕ) (l h : List ℕ) → Becomes (t .seats) l k h → SameFront gr h → writeEntries h ≡ onWrite (b .seats k) item v .writes →
-      Good opening (tables (t .values) (t .words) l) (seeing b k (onWrite (b .seats k) item v))
-  written-good v l h be front e =
-      let same = front-reads gr h front (fi .sound .reads-in) in
-      let x = onWrite (b .seats k) item v in
+  written-good : (v : ℕ) (l h : List ℕ) → Becomes (t .seats) l k h → SameFront gr h → Shows h (onWrite (b .seats k) item v (Noted item)) →
+      Good opening (tables (t .values) (t .words) l) (seeing b k (onWrite (b .seats k) item v (Noted item)))
+  written-good v l h be front z =
+      let same = front-entries gr h front (fi .sound .reads-in) in
+      let x = onWrite (b .seats k) item v (Noted item) in
       let ph : phase h ≡ 1 = front phaseAt (omega arith) (omega arith) ∙ one in
       let po : position h ≡ 0 = front positionAt (omega arith) (omega arith) ∙ at-start in
       record {
@@ -143,24 +134,29 @@ module _ (opening : Values) (t : Tables) (b : Observer) (g : Good opening t b) (
         inv = rests opening (g .σ) (g .inv) k;
         agree = agree-seeing (g .agree) (tables (t .values) (t .words) l) (g .σ .version) k (g .σ .seat k) h refl refl (g .agree .shown) be x
             (is-working ∙ (λ i. working (sym same i) []) ∙ sym (view-working (x .key) h ph po))
-            (λ _. seen-working h x ph (unfold onWrite in ap (map told) same ∙ seen .is-reads) e);
+            (λ _. seen-working h x ph z);
       }
 
   module _ (v : ℕ) where
-    renewed-good : ltb (writeOf gr item) (writes gr) ≡ true → Good opening (tables (t .values) (t .words) (put (t .seats) k (writeValueAt (writeOf gr item)) v)) (seeing b k (onWrite (b .seats k) item v))
+    abbrev after : Observer
+    after = seeing b k (onWrite (b .seats k) item v (Noted item))
+
+    renewed-good : ltb (writeOf gr item) (writes gr) ≡ true →
+        Good opening (tables (t .values) (t .words) (put (t .seats) k (writeValueAt (writeOf gr item)) v)) after
     renewed-good a =
         let few = fi .sound .writes-in in
         let found : writeOf gr item < writes gr = ltb-true _ _ a in
         written-good v _ _ (becomes-put (t .seats) k (writeValueAt (writeOf gr item)) v (omega arith)) (renewed-front gr item v size few found)
-        (renewed-writes gr item v size few found ∙ ap (renewed item v) (seen .is-writes) ∙ (unfold onWrite in rw (sees-write ∙ a)))
+        (renewed-shows gr (b .seats k) (seen .shows) item v size (fi .sound .reads-in) few a)
 
-    inserted-good : ltb (writeOf gr item) (writes gr) ≡ false → writes gr < mostWrites → Good opening (tables (t .values) (t .words) (placed (t .seats) k (placeOf gr item) item v)) (seeing b k (onWrite (b .seats k) item v))
-    inserted-good a room =
+    inserted-good : ltb (writeOf gr item) (writes gr) ≡ false → writes gr < mostWrites →
+        Good opening (tables (t .values) (t .words) (placed (t .seats) k (placeOf gr item) item v)) after
+    inserted-good a few =
         let low : placeOf gr item ≤ writes gr = (unfold placeOf in first-le (above gr item) (writes gr)) in
         let p = placed-row gr (placeOf gr item) item v size low (omega arith) in
         let h = placedRow gr (placeOf gr item) item v in
         written-good v _ h (becomes-placed (t .seats) k (placeOf gr item) item v low (omega arith)) (placed-front gr h item v p)
-        (placed-writes gr h item v p ∙ ap (inserted item v) (seen .is-writes) ∙ (unfold onWrite in rw (sees-write ∙ a)))
+        (placed-shows gr (b .seats k) (seen .shows) item h v p (fi .sound .reads-in) a)
 
     pub write-in-ok : Ok opening b (Write o k item v) (writeIn t k item v)
     unfolding writeIn observe

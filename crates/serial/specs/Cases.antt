@@ -13,7 +13,9 @@ use Rattle.cases.specs.Quick.{quick-history}
 use Rattle.cases.specs.Cases.{blank, plan, computed, Case, tape, Plays, P8, TapeX, table, tape-x}
 use Rattle.rules.specs.declared.Answer.{Answer}
 use Rattle.rules.specs.declared.Answer.the-variants.{Ready, Seat, Value, Noted, Locked, Timed, Checked, Sealed, Stored, Done}
-use Rattle.serial.specs.Statement.{FirstRead, Transaction, Observer, Values, nothing, changed, has, isKnown, onRead, folded, renewed, inserted, onWrite, onTimed, toStore, onSealed, onStored, onAdvance, begins, observe, observed, before, placed, allPlaced, serial, written, outcome, Right, AllStored}
+use Rattle.observer.specs.Observer.{FirstRead, Transaction, Observer, nothing, has, isKnown, onRead, folded, renewed, inserted, onWrite, onAdvance, onAbandon}
+use Rattle.observer.specs.Observer.{changed, observe, observed}
+use Rattle.serial.specs.Statement.{Values, before, placed, allPlaced, serial, written, outcome, Right, AllStored}
 
 -- calls with answers, and that a history is its calls with its answers
 unfoldable pub paired : List Call → List Answer → List Event
@@ -42,7 +44,7 @@ zeros item = 0
 
 -- what the observer computes with
 unfoldable pub observing : Unit {0}
-unfolding plan paired changed has isKnown onRead folded renewed inserted onWrite onTimed toStore onSealed onStored onAdvance begins observe observed before placed allPlaced
+unfolding plan paired has isKnown onRead folded renewed inserted onWrite onAdvance onAbandon changed observe observed before placed allPlaced
 observing = tt
 
 -- TAPE X

@@ -4,7 +4,8 @@ use mathlib.Core.Path.{_≡_}
 use mathlib.Core.Bool.{cond}
 use mathlib.Core.List.{List, [], _∷_, List·Memᴰ as In, List·Permᴰ as Permutation}
 use lib.Dec.{eqb}
-use Rattle.serial.specs.Statement.{Transaction, serial}
+use Rattle.observer.specs.Observer.{Transaction}
+use Rattle.serial.specs.Statement.{serial}
 
 -- no later one has a smaller key
 unfoldable pub Sorted : List Transaction → Type 0

@@ -10,13 +10,13 @@ use lib.Dec.{eqb, ltb}
 use lib.ListN.{length, getD, set}
 use lib.Seq.{getD-set-same, getD-set-other}
 use Rattle.rules.specs.Tests.{scan}
-use Rattle.rules.specs.Layout.{rowWidth, writeWidth, mostReads, mostWrites, readsAt, writesAt, readItemAt, readValueAt, keptWriteAt, keptReadAt, writesFrom, writeItemAt, writeValueAt, reads, writes}
+use Rattle.rules.specs.Layout.{rowWidth, writeWidth, mostReads, mostWrites, readsAt, writesAt, readItemAt, readValueAt, writesFrom, writeItemAt, writeValueAt, reads, writes}
 use Rattle.rules.specs.Work.{writeNames, writeOf, above, placeOf}
 use Rattle.rows.specs.Search.{first-le}
 use Rattle.rows.specs.Changed.{Placed}
-use Rattle.serial.specs.Statement.{WriteEntry, folded, renewed, inserted}
-use Rattle.serial.proofs.Segments.{seg, seg-ext}
-use Rattle.serial.proofs.View.{readAt, writeAt, readEntries, writeEntries, read-same, write-same}
+use Rattle.observer.specs.Observer.{WriteEntry, folded, renewed, inserted}
+use Rattle.observer.proofs.Segments.{seg, seg-ext}
+use Rattle.observer.proofs.Entries.{readAt, writeAt, firstReads, writeEntries, read-same, write-same}
 
 -- LISTS
 scan-ge : (p : ℕ → Bool) (n i : ℕ) → i ≤ scan p i n
@@ -78,15 +78,15 @@ module _ (f h : ℕ → WriteEntry) (item v : ℕ) where
 abbrev pub SameFront : List ℕ → List ℕ → Type 0
 SameFront g h = (f : ℕ) → f ≢ writesAt → f < writesFrom → getD h f 0 ≡ getD g f 0
 
-pub front-reads : (g h : List ℕ) → SameFront g h → reads g ≤ mostReads → readEntries h ≡ readEntries g
+pub front-reads : (g h : List ℕ) → SameFront g h → reads g ≤ mostReads → firstReads h ≡ firstReads g
 front-reads g h s few =
     ap (seg (readAt h) 0) (s readsAt (omega arith) (omega arith))
     ∙ seg-ext (readAt h) (readAt g) (reads g) 0
-    (λ i _ l. read-same g h i (s (readItemAt i) (omega arith) (omega arith)) (s (readValueAt i) (omega arith) (omega arith)) (s (keptWriteAt i) (omega arith) (omega arith)) (s (keptReadAt i) (omega arith) (omega arith)))
+    (λ i _ l. read-same g h i i (s (readItemAt i) (omega arith) (omega arith)) (s (readValueAt i) (omega arith) (omega arith)))
 
 -- the first entry for the record takes the value
 module _ (g : List ℕ) (item v : ℕ) (size : length g ≡ rowWidth) (few : writes g ≤ mostWrites) (found : writeOf g item < writes g) where
-  abbrev pub renewedRow : List ℕ
+  abbrev renewedRow : List ℕ
   renewedRow = set g (writeValueAt (writeOf g item)) v
 
   pub renewed-front : SameFront g renewedRow

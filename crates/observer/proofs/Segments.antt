@@ -9,9 +9,9 @@ use native.Mathlib.Nat.{eq-or-lt-of-le}
 use native.Mathlib.Numerals.{add-one}
 use borrow.Author.Tests.{lt-ltb, le-ltb}
 use lib.Dec.{ltb}
-use lib.ListN.{length}
+use lib.ListN.{length, getD}
 use Rattle.rules.specs.Tests.{scan, any}
-use Rattle.serial.specs.Statement.{has}
+use Rattle.observer.specs.Observer.{has}
 
 unfoldable pub seg : {A : Type 0} → (ℕ → A) → ℕ → ℕ → List A
 seg f i zero = []
@@ -86,3 +86,13 @@ pub seg-map : {A B : Type 0} (h : A → B) (f : ℕ → A) (n i : ℕ) → map h
 unfolding seg
 seg-map h f zero i = refl
 seg-map {B = B} h f (suc n) i = ap (λ (l : List B). h (f i) ∷ l) (seg-map h f n (suc i))
+
+-- what stands at a place of it
+pub seg-at : (f : ℕ → ℕ) (n i : ℕ) → i < n → getD (seg f 0 n) i 0 ≡ f i
+unfolding seg
+seg-at f n i l = go n 0 i l ∙ ap f (let e : 0 + i ≡ i = omega arith in e)
+  where
+    go : (n j i : ℕ) → i < n → getD (seg f j n) i 0 ≡ f (j + i)
+    go zero j i l = absurd (omega arith)
+    go (suc n) j zero l = ap f (let e : j ≡ j + 0 = omega arith in e)
+    go (suc n) j (suc i) l = go n (suc j) i (omega arith) ∙ ap f (let e : suc j + i ≡ j + suc i = omega arith in e)
