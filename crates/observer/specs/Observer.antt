@@ -1,7 +1,8 @@
 -- WHAT IS SEEN BY ONE WHO SEES CALLS AND ANSWERS ALONE, of each seat and of the sealed transactions. Demands 1 and 3 speak of this one observer.
 use Prim.Native.Nat.{ℕ, _-_}
+use mathlib.Core.Path.{_≡_}
 use mathlib.Core.Bool.{Bool, true, false, cond, not, _&&_, _||_}
-use mathlib.Core.List.{List, [], _∷_, _++_}
+use mathlib.Core.List.{List, [], _∷_, _++_, List·Memᴰ as In}
 use lib.Dec.{eqb, ltb}
 use lib.ListN.{length}
 use Rattle.rules.specs.Answers.{ready, seat, value, noted, locked, timed, checked, sealed, stored, done, dropped, aborted, kind, number}
@@ -194,3 +195,10 @@ isSetup (Abandon o s) = false
 
 abbrev pub begins : Call → Answer → Bool
 begins c a = isSetup c && eqb (kind a) ready
+
+-- no Setup among the events was answered ready; one was
+abbrev pub NoSetup : List Event → Type 0
+NoSetup es = (e : Event) → In e es → begins (e .call) (e .answer) ≡ false
+
+abbrev pub SomeSetup : List Event → Type 0
+SomeSetup es = (e : Event) × In e es × (begins (e .call) (e .answer) ≡ true)

@@ -3,7 +3,7 @@ use Prim.Native.Nat.{ℕ, zero, suc, _+_, _*_, _<_}
 use mathlib.Core.Path.{_≡_, refl, sym, ap, _∙_, subst}
 use mathlib.Core.Logic.{_≢_, _⊎_, inl, inr}
 use mathlib.Core.Bool.{Bool, true, false, cond, not, true≢false}
-use mathlib.Core.List.{List, [], _∷_, _++_}
+use mathlib.Core.List.{List, [], _∷_, _++_, List·Memᴰ·head as here, List·Memᴰ·tail as there}
 use native.Mathlib.Omega.{arith}
 use borrow.Author.Tests.{eqb-true, eqb-false, eq-eqb, ne-eqb, ltb-true, ltb-false, lt-leb, not-true}
 use lib.Dec.{eqb, ltb}
@@ -15,18 +15,18 @@ use Rattle.rules.specs.Refusals.{misnamed, refusal}
 use Rattle.rules.specs.Plan.{setupRefusal, setup, openRefusal, freeSeat, openSeat}
 use Rattle.rules.specs.Work.{readIn, read, writeIn, write}
 use Rattle.rules.specs.Advance.{letGo, storeStep, doneStep, storePhase, advanceIn, advance, abandon}
-use Rattle.rules.specs.Answers.{ready, sealed, stored, done, refused, kind, number}
+use Rattle.rules.specs.Answers.{sealed, stored, done, refused, kind, number}
 use Rattle.rules.specs.Calls.{Call, Setup, Open, Read, Write, Advance, Abandon, step, run, Event, history}
 use Rattle.rules.specs.declared.Answer.{Answer}
 use Rattle.rules.specs.declared.Answer.the-variants.{Ready, Seat, Value, Noted, Locked, Timed, Checked, Sealed, Stored, Done, Dropped, Refused, Aborted}
 use Rattle.rows.specs.Fine.{cond-ind, Fine, fine}
-use Rattle.observer.specs.Observer.{Seen, Observer, givenTo, begunWith, onAdvance, observe, observed}
+use Rattle.observer.specs.Observer.{Seen, Observer, givenTo, begunWith, onAdvance, observe, observed, isSetup, begins, NoSetup}
 use Rattle.observer.proofs.Changes.{changed-same, changed-other, refusal-shows}
 use Rattle.reach.specs.Reached.{Reached, begun, records, seen}
 use Rattle.reach.specs.Counts.{advanceCount, writeCount, readCount}
 use Rattle.reach.specs.Life.{advanced}
 use Rattle.reach.specs.Refusals.{seatDue}
-use Rattle.reach.specs.Progress.{Progress, ProgressOfEach, isAdvance, advancesOf, noneReady, ending, EndsExactly}
+use Rattle.reach.specs.Progress.{Progress, ProgressOfEach, isAdvance, advancesOf, ending, EndsExactly}
 use Rattle.reach.proofs.Tests.{by, both, all-none}
 use Rattle.reach.proofs.Order.{InOrder}
 use Rattle.reach.proofs.Rows.{passes-four}
@@ -195,11 +195,11 @@ module _ (t : Tables) (z : Reached t) (s : ℕ) (low : s < seatCount) (h : seen 
   seat-still : (c : Call) (j n : ℕ) → (s ≢ j → Still c) → (s ≡ j → step t c ≡ keep t (Refused n)) → Still c
   seat-still c j n other f = by (eqb s j) (λ e. refused-still c n (f (eqb-true s j e))) (λ e. other (eqb-false s j e))
 
-  still : (c : Call) → isAdvance (seen z .seats s .holder) s c ≡ false → kind (step t c .answer) ≢ ready → Still c
-  unfolding isAdvance step setup openSeat read write advance abandon observe
+  still : (c : Call) → isAdvance (seen z .seats s .holder) s c ≡ false → begins c (step t c .answer) ≡ false → Still c
+  unfolding isAdvance step setup openSeat read write advance abandon observe isSetup
   still (Setup start plan) f d =
       let why : ℕ = setupRefusal t start plan in
-      by (eqb why 0) (λ e. absurd (d (rw e refl))) (λ e. refused-still (Setup start plan) why (unless-refused why t _ (eqb-false why 0 e)))
+      by (eqb why 0) (λ e. absurd (true≢false (rw e at d))) (λ e. refused-still (Setup start plan) why (unless-refused why t _ (eqb-false why 0 e)))
   still (Open o) f d =
       by (eqb (openRefusal t o) 0)
       (λ e. let q = free-seat t (reached-in-order t z) o (eqb-true _ 0 e) in
@@ -278,18 +278,19 @@ advance-run t z o s n low k rest next = go n (goes t z s low (k .is-sealed)) cou
             record { is-sealed = k .is-sealed; by-holder = k .by-holder; to-go = omega arith }
 
 sealed-run : (t : Tables) (z : Reached t) (o s n : ℕ) → s < seatCount → Left (seen z .seats s) o n → (cs : List Call) →
-    noneReady (history t cs) ≡ true → Ends n (advancesOf o s (history t cs))
-unfolding history advancesOf noneReady
+    NoSetup (history t cs) → Ends n (advancesOf o s (history t cs))
+unfolding history advancesOf
 sealed-run t z o s n low k [] q = refl
 sealed-run t z o s n low k (c ∷ cs) q =
-    let none = both (not (eqb (kind (step t c .answer)) ready)) _ q in
+    let none = q (event t c) (unfold event in here refl) in
+    let rest : NoSetup (history (step t c .tables) cs) = λ e i. q e (there i) in
     by (isAdvance o s c)
     (λ e. rw (e, its-advance o s c e)
     (advance-run t z o s n low k _
-    (λ m l. sealed-run (step t (Advance o s) .tables) (more z (Advance o s)) o s m low l cs (rw (its-advance o s c e) at (none .1)))))
+    (λ m l. sealed-run (step t (Advance o s) .tables) (more z (Advance o s)) o s m low l cs (rw (its-advance o s c e) at rest))))
     (λ e. let same : seen (more z c) .seats s ≡ seen z .seats s =
-    ap (λ (b : Observer). b .seats s) (seen-more z c) ∙ still t z s low (k .is-sealed) c (rw (k .by-holder) e) (eqb-false _ _ (not-true _ (none .0))) in
-    rw e (sealed-run (step t c .tables) (more z c) o s n low (rw same k) cs (none .1)))
+    ap (λ (b : Observer). b .seats s) (seen-more z c) ∙ still t z s low (k .is-sealed) c (rw (k .by-holder) e) (unfold event in none) in
+    rw e (sealed-run (step t c .tables) (more z c) o s n low (rw same k) cs rest))
 
 -- the answer that says Sealed
 sealed-is : (a : Answer) → kind a ≡ sealed → a ≡ Sealed (number a)

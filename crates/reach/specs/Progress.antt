@@ -3,16 +3,16 @@
 use Prim.Native.Nat.{ℕ, _<_}
 use mathlib.Core.Path.{_≡_}
 use mathlib.Core.Logic.{_≢_, _⊎_}
-use mathlib.Core.Bool.{Bool, true, false, cond, not, _&&_}
+use mathlib.Core.Bool.{Bool, true, false, cond, _&&_}
 use mathlib.Core.List.{List, [], _∷_, _++_}
 use lib.Dec.{eqb}
 use lib.ListN.{length, take, replicate}
 use Rattle.rules.specs.Layout.{seatCount}
 use Rattle.rules.specs.Tables.{Tables}
-use Rattle.rules.specs.Answers.{ready, sealed, stored, done, refused, kind}
+use Rattle.rules.specs.Answers.{sealed, stored, done, refused, kind}
 use Rattle.rules.specs.Calls.{Call, Setup, Open, Read, Write, Advance, Abandon, step, Event, history}
 use Rattle.rules.specs.declared.Answer.the-variants.{Dropped}
-use Rattle.observer.specs.Observer.{Seen}
+use Rattle.observer.specs.Observer.{Seen, NoSetup}
 use Rattle.reach.specs.Reached.{Reached, seen}
 use Rattle.reach.specs.Counts.{writeCount}
 use Rattle.reach.specs.Life.{advanced}
@@ -43,11 +43,6 @@ unfoldable pub advancesOf : ℕ → ℕ → List Event → List ℕ
 advancesOf o s [] = []
 advancesOf o s (e ∷ es) = cond (isAdvance o s (e .call)) (kind (e .answer) ∷ advancesOf o s es) (advancesOf o s es)
 
--- no Setup was answered ready
-unfoldable pub noneReady : List Event → Bool
-noneReady [] = true
-noneReady (e ∷ es) = not (eqb (kind (e .answer)) ready) && noneReady es
-
 -- the answers to a sealed transaction's last Advances: Stored for each of its writes, then Done
 abbrev pub ending : ℕ → List ℕ
 ending writes = replicate writes stored ++ (done ∷ [])
@@ -58,4 +53,4 @@ EndsExactly t =
     (z : Reached t) (o s : ℕ) → kind (advanced t o s) ≡ sealed → (cs : List Call) →
     let after = history (step t (Advance o s) .tables) cs in
     let last = ending (writeCount (seen z .seats s)) in
-    noneReady after ≡ true → take (length last) (advancesOf o s after) ≡ take (length (advancesOf o s after)) last
+    NoSetup after → take (length last) (advancesOf o s after) ≡ take (length (advancesOf o s after)) last

@@ -21,9 +21,9 @@ use Rattle.rules.specs.Calls.{Call, Setup, Open, Read, Write, Advance, Abandon,
 use Rattle.rows.specs.Fine.{cond-ind, Fine, fine}
 use Rattle.rows.specs.Becomes.{row-past}
 use Rattle.rows.specs.Begin.{begun, setup-ready, length-laid, laid-row}
-use Rattle.observer.specs.Observer.{Observer, begunWith, nothing, observe, observed, isSetup, begins}
+use Rattle.observer.specs.Observer.{Observer, begunWith, nothing, observe, observed, isSetup, begins, NoSetup, SomeSetup}
 use Rattle.observer.proofs.Changes.{begins-anew, begins-is}
-use Rattle.serial.specs.Statement.{Values, AllStored, valuesOf, Serializable, NoSetup, SomeSetup, SerialOrder, openingFrom, SinceLastSetup, allPlaced}
+use Rattle.serial.specs.Statement.{Values, AllStored, valuesOf, Serializable, SerialOrder, openingFrom, SinceLastSetup, allPlaced}
 use Rattle.serial.proofs.Protocol.{Left}
 use Rattle.serial.proofs.Final.{begin, begin-inv, inv-final}
 use Rattle.observer.proofs.Segments.{seg-in}

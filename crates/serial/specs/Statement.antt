@@ -3,7 +3,7 @@
 -- order by key, these run one after another, from the opening values, would read what their readers were told, and leave what the table holds.
 use Prim.Native.Nat.{ℕ, _<_}
 use mathlib.Core.Path.{_≡_}
-use mathlib.Core.Bool.{Bool, true, false, cond}
+use mathlib.Core.Bool.{Bool, cond}
 use mathlib.Core.List.{List, [], _∷_, List·Memᴰ as In}
 use lib.Dec.{eqb, leb}
 use lib.ListN.{length, getD}
@@ -12,8 +12,8 @@ use Rattle.rules.specs.Tables.{Tables}
 use Rattle.rules.specs.Answers.{ready, kind}
 use Rattle.rules.specs.Plan.{setup}
 use Rattle.rules.specs.Advance.{effect}
-use Rattle.rules.specs.Calls.{Call, step, run, Event, history}
-use Rattle.observer.specs.Observer.{FirstRead, WriteEntry, Transaction, Observer, nothing, observed, begins}
+use Rattle.rules.specs.Calls.{Call, step, run, history}
+use Rattle.observer.specs.Observer.{FirstRead, WriteEntry, Transaction, Observer, nothing, observed, begins, NoSetup, SomeSetup}
 
 -- 1. THE ORDER: by key, equal keys by order of sealing. (Order proves that it is that.)
 -- U, sealed before T, comes before T too: its key is not greater
@@ -74,13 +74,6 @@ pub record Serializable (opening : Values) (b : Observer) (t : Tables) : Type 0 
   pub final : AllStored b → (item : ℕ) → item < length (t .values) → outcome (serial (b .sealed)) opening item ≡ getD (t .values) item 0
   -- what the order goes by is the commit time
   pub by-time : (T : Transaction) → In T (b .sealed) → T .key ≡ T .time
-
--- no Setup among the events was answered ready; one was
-abbrev pub NoSetup : List Event → Type 0
-NoSetup es = (e : Event) → In e es → begins (e .call) (e .answer) ≡ false
-
-abbrev pub SomeSetup : List Event → Type 0
-SomeSetup es = (e : Event) × In e es × (begins (e .call) (e .answer) ≡ true)
 
 -- THE THEOREM: for any tables on which Setup answers ready, and any calls after it, no further Setup answering ready among them
 unfoldable pub SerialOrder : Type 0
