@@ -1,10 +1,10 @@
 -- How tables, with what the observer has seen, stand to a state of the protocol; and what is to be shown of a call.
-use Prim.Native.Nat.{ℕ, _-_, _≤_, _<_}
+use Prim.Native.Nat.{ℕ, _-_, _<_}
 use mathlib.Core.Path.{_≡_, sym, _∙_}
 use mathlib.Core.Logic.{_≢_}
 use mathlib.Core.Bool.{false}
 use mathlib.Core.Option.{none, some}
-use mathlib.Core.List.{List, List·Memᴰ as In}
+use mathlib.Core.List.{List}
 use native.Mathlib.Omega.{arith}
 use native.Mathlib.Decide.{ℕ-discrete}
 use borrow.Author.Tests.{eqb-true}
@@ -41,19 +41,17 @@ AllShown c values words = (item : ℕ) → item < length words → Shown (c item
 -- what is seen of a seat is what its row holds
 pub record SeenOk (g : List ℕ) (x : Seen) : Type 0 where
   pub shows : Shows g x
-  pub is-key : 3 ≤ phase g → x .key ≡ time g
   pub is-left : phase g ≡ 4 → x .left ≡ writes g - position g
 
 -- a nudged row, with what is seen of it
 pub seen-nudged : {g h : List ℕ} {ph p t : ℕ} → Nudged g h ph p t → (x y : Seen) → SeenOk g x → y .reads ≡ x .reads → y .writes ≡ x .writes →
-    (3 ≤ ph → y .key ≡ t) → (ph ≡ 4 → y .left ≡ writes g - p) → SeenOk h y
-seen-nudged {g} {h} n x y o a b key left =
+    (ph ≡ 4 → y .left ≡ writes g - p) → SeenOk h y
+seen-nudged {g} {h} n x y o a b left =
     let ph = n .is-phase in
     let po = n .is-position in
     let wr = nudged-writes n in
     record {
       shows = record { is-reads = nudged-firstReads n ∙ o .shows .is-reads ∙ sym a; is-writes = nudged-writeEntries n ∙ o .shows .is-writes ∙ sym b };
-      is-key = λ l. key (omega arith) ∙ sym (n .is-time);
       is-left = λ e. omega (arith, left (omega arith));
     }
 
@@ -63,7 +61,6 @@ pub record Agree (t : Tables) (σ : State) (b : Observer) : Type 0 where
   pub rows : (k : ℕ) → σ .seat k ≡ view (b .seats k .key) (row (t .seats) k)
   pub seen : (k : ℕ) → phase (row (t .seats) k) ≢ 0 → SeenOk (row (t .seats) k) (b .seats k)
   pub order : σ .order ≡ serial (b .sealed)
-  pub by-time : (T : Transaction) → In T (b .sealed) → T .key ≡ T .time
 
 -- some state of the protocol agrees
 pub record Good (opening : Values) (t : Tables) (b : Observer) : Type 0 where
@@ -71,12 +68,9 @@ pub record Good (opening : Values) (t : Tables) (b : Observer) : Type 0 where
   pub inv : Inv opening σ
   pub agree : Agree t σ b
 
--- a seat's stamp; once it has its time, its key is the time
+-- a seat's stamp, once it has its time
 abbrev pub stampAt : Tables → Observer → ℕ → Stamp
 stampAt t b k = record { key = b .seats k .key; time = time (row (t .seats) k) }
-
-pub keyed-at : {opening : Values} {t : Tables} {b : Observer} → Good opening t b → (k : ℕ) → 3 ≤ phase (row (t .seats) k) → b .seats k .key ≡ time (row (t .seats) k)
-keyed-at g k l = g .agree .seen k (λ z. omega arith) .is-key l
 
 -- WHAT IS TO BE SHOWN of a call, other than a Setup that is answered ready
 abbrev pub Ok : Values → Observer → Call → Outcome → Type 0
@@ -119,16 +113,14 @@ pub agree-others : (t u : Tables) (σ : State) (b d : Observer) (k : ℕ) →
     (phase g ≢ 0 → SeenOk g (d .seats k)) →
     ((j : ℕ) → j ≢ k → d .seats j ≡ b .seats j) →
     S ≡ serial (d .sealed) →
-    ((T : Transaction) → In T (d .sealed) → T .key ≡ T .time) →
     Agree u (record { order = S; version = c; seat = changed k s (σ .seat) }) d
-agree-others t u σ b d k rows seen S c s g sized shown be v se other o bt =
+agree-others t u σ b d k rows seen S c s g sized shown be v se other o =
     record {
       sized = sized;
       shown = shown;
       rows = changed-ind (λ j z. z ≡ view (d .seats j .key) (row (u .seats) j)) k s (σ .seat) (rw (be .own) v) (λ j n. rw (be .others j n, other j n) (rows j n));
       seen = λ j. go j (ℕ-discrete j k);
       order = o;
-      by-time = bt;
     }
   where
     go : (j : ℕ) → Dec (j ≡ k) → phase (row (u .seats) j) ≢ 0 → SeenOk (row (u .seats) j) (d .seats j)
@@ -142,4 +134,4 @@ module _ {t : Tables} {σ : State} {b : Observer} (h : Agree t σ b) (u : Tables
       Agree u (record { order = σ .order; version = c; seat = changed k s (σ .seat) }) (seeing b k x)
   agree-seeing x v se =
       agree-others t u σ b (seeing b k x) k (λ j n. h .rows j) (h .seen) (σ .order) c s g (sized-same u (h .sized) va wo (be .size)) shown be
-      (rw (changed-same k x (b .seats)) v) (rw (changed-same k x (b .seats)) se) (λ j n. changed-other k x (b .seats) j n) (h .order) (h .by-time)
+      (rw (changed-same k x (b .seats)) v) (rw (changed-same k x (b .seats)) se) (λ j n. changed-other k x (b .seats) j n) (h .order)

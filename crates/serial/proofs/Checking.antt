@@ -1,9 +1,9 @@
 -- Advance in phase 3: the check of a read entry, or the seal.
 use Prim.Native.Nat.{ℕ, _+_, _-_, _≤_, _<_}
 use mathlib.Core.Path.{_≡_, refl, sym, ap, _∙_}
-use mathlib.Core.Logic.{_⊎_, inl, inr, ⊎-elim}
+use mathlib.Core.Logic.{_⊎_, inl, inr}
 use mathlib.Core.Bool.{Bool, true, false, not, _&&_}
-use mathlib.Core.List.{List, [], _∷_, _++_, map, List·Memᴰ as In, List·Memᴰ·append-cases as append-cases, List·Memᴰ·eq-of-singleton as eq-of-singleton}
+use mathlib.Core.List.{List, [], _∷_, _++_, map}
 use native.Mathlib.Omega.{arith}
 use borrow.Author.Tests.{eqb-true, leb-true, ltb-true, ltb-false, not-false, le-leb}
 use lib.Dec.{eqb, ltb, leb}
@@ -33,7 +33,7 @@ use Rattle.serial.proofs.Steps.{reseat, reversion, Passes, spanned, our
 use Rattle.observer.proofs.Segments.{seg, length-seg, seg-more, seg-next, seg-end, seg-whole, seg-has}
 use Rattle.observer.proofs.Entries.{writeAt, writeEntries}
 use Rattle.serial.proofs.View.{entryAt, told-entries, seatOf, view, view-checking, nudged-view}
-use Rattle.serial.proofs.Agree.{Shown, SeenOk, Good, stampAt, keyed-at, Ok, shown-set, sized-same, seen-nudged, agree-others, agree-seeing}
+use Rattle.serial.proofs.Agree.{Shown, SeenOk, Good, stampAt, Ok, shown-set, sized-same, seen-nudged, agree-others, agree-seeing}
 use Rattle.serial.proofs.Release.{abort-ok}
 
 module _ (opening : Values) (t : Tables) (b : Observer) (g : Good opening t b) (o k last : ℕ) (fi : Fine t o k 0 last) (three : phase (row (t .seats) k) ≡ 3) where
@@ -43,14 +43,14 @@ module _ (opening : Values) (t : Tables) (b : Observer) (g : Good opening t b) (
   seen : SeenOk gr (b .seats k)
   seen = g .agree .seen k (fi .used)
 
-  keyed : b .seats k .key ≡ time gr
-  keyed = keyed-at g k (omega arith)
-
   abbrev stamp : Stamp
   stamp = stampAt t b k
 
   is-checking : g .σ .seat k ≡ checking stamp (seg (entryAt gr) 0 (position gr)) (seg (entryAt gr) (position gr) (reads gr - position gr)) (writeEntries gr)
   is-checking = g .agree .rows k ∙ view-checking (b .seats k .key) gr three
+
+  keyed : b .seats k .key ≡ time gr
+  keyed = rw is-checking at (g .inv .by-time .seats k)
 
   -- THE CHECK of the read entry at position
   module _ (l : position gr < reads gr) where
@@ -91,7 +91,7 @@ module _ (opening : Values) (t : Tables) (b : Observer) (g : Good opening t b) (
 
     seen-on : SeenOk (set gr positionAt (position gr + 1)) (onAdvance (b .seats k) (Checked (checkItem gr)))
     unfolding onAdvance
-    seen-on = seen-nudged on (b .seats k) (onAdvance (b .seats k) (Checked (checkItem gr))) seen refl refl (λ _. keyed) (λ q. absurd (omega arith))
+    seen-on = seen-nudged on (b .seats k) (onAdvance (b .seats k) (Checked (checkItem gr))) seen refl refl (λ q. absurd (omega arith))
 
     pass-good : Passes x stamp (writeEntries gr) e → Good opening (tables (t .values) (t .words) (put (t .seats) k positionAt (position gr + 1))) (seeing b k (onAdvance (b .seats k) (Checked (checkItem gr))))
     unfolding onAdvance
@@ -179,11 +179,10 @@ module _ (opening : Values) (t : Tables) (b : Observer) (g : Good opening t b) (
               (sized-same (tables (t .values) (t .words) (moved (t .seats) k 4 0)) (g .agree .sized) refl refl (becomes-moved (t .seats) k 4 0 .size))
               (λ item l. marked-shown item l (find item ws)) (becomes-moved (t .seats) k 4 0)
               (rw (changed-same k x (b .seats)) ((λ i. storing stamp (sym (seg-whole (writeAt gr) (writes gr)) i)) ∙ sym (nudged-view n (z .key))))
-              (λ _. rw (changed-same k x (b .seats)) (seen-nudged n z x seen refl refl (λ _. keyed)
+              (λ _. rw (changed-same k x (b .seats)) (seen-nudged n z x seen refl refl
               (λ _. ap length (sym (seen .shows .is-writes)) ∙ length-seg (writeAt gr) (writes gr) 0 ∙ (let q : writes gr ≡ writes gr - 0 = omega arith in q))))
               (λ j d. changed-other k x (b .seats) j d)
-              ((λ i. placed (record { time = time gr; key = z .key; reads = rs i; writes = seen .shows .is-writes i }) (g .agree .order i)) ∙ sym (serial-more (b .sealed) T))
-              (λ U i. ⊎-elim (λ (j : In U (b .sealed)). g .agree .by-time U j) (λ (j : In U (T ∷ [])). rw (eq-of-singleton j) keyed) (append-cases (b .sealed) i));
+              ((λ i. placed (record { time = time gr; key = z .key; reads = rs i; writes = seen .shows .is-writes i }) (g .agree .order i)) ∙ sym (serial-more (b .sealed) T));
         }
 
   pub check-phase-ok : Ok opening b (Advance o k) (checkPhase t k)

@@ -31,7 +31,6 @@ begin-inv start opening =
         range = omega arith;
         wrote-low = omega arith;
         due-below = λ d e. absurd (none-some {A = Due} none d refl e);
-        due-timed = λ d e. absurd (none-some {A = Due} none d refl e);
         due-held = λ p. refl;
         kept = λ u p q. refl;
         now = λ u p. refl;
@@ -39,6 +38,7 @@ begin-inv start opening =
         writers = λ T i. absurd (not-nil i);
       };
       seats = λ k. tt;
+      by-time = record { seats = λ k. tt; sealed = λ T i. absurd (not-nil i) };
       holders = λ item k e. absurd (none-some {A = ℕ} none k refl e);
     }
 

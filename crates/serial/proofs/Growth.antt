@@ -12,7 +12,7 @@ use Rattle.serial.specs.Statement.{Values, Right}
 use Rattle.serial.specs.Order.{Sorted}
 use Rattle.serial.proofs.Timeline.{Named}
 use Rattle.serial.proofs.Protocol.{none-some, Stamp, Due, Version, ReadEntry, Seat, State}
-use Rattle.serial.proofs.Protocol.{free, working, checking, storing, closed, Left, Holds, Fits, Below, val, VersionOk, EntryOk, Covered, Held, SeatOk, Inv, upTo-closed}
+use Rattle.serial.proofs.Protocol.{free, working, checking, storing, closed, Left, Holds, KeyIsTime, Fits, Below, val, VersionOk, EntryOk, Covered, Held, SeatOk, Inv, upTo-closed}
 
 module _ (opening : Values) where
   -- WHAT A STEP MAY DO TO A VERSION
@@ -91,7 +91,6 @@ module _ (opening : Values) where
             fits = λ e i. fits-later t e (h .entries e i) (h .fits e i);
             held = λ w i. held-later w (h .held w i);
             below = λ w i. below-later t w (h .held w i) (h .below w i);
-            timed = h .timed;
             distinct = h .distinct;
           }
       seat-later (storing t ws) h =
@@ -108,14 +107,16 @@ module _ (opening : Values) where
       ((item : ℕ) → Grows (σ .order) S item (σ .version item) (c item)) →
       ((j : ℕ) → j ≢ k → (item : ℕ) → Stays j (σ .order) S item (σ .version item) (c item)) →
       SeatOk opening S c k s →
+      KeyIsTime s → ((T : Transaction) → In T S → T .key ≡ T .time) →
       ((item j : ℕ) → c item .holder ≡ some j → Holds (changed k s (σ .seat) j) item) →
       Inv opening (record { order = S; version = c; seat = changed k s (σ .seat) })
-  step σ S c k s h so ri ve gr st se ho =
+  step σ S c k s h so ri ve gr st se at ti ho =
       record {
         sorted = so;
         right = ri;
         versions = ve;
         seats = changed-ind (SeatOk opening S c) k s (σ .seat) se (λ j n. seat-later (σ .order) S (σ .version) c (h .versions) gr j (st j n) (σ .seat j) (h .seats j));
+        by-time = record { seats = changed-ind (λ j z. KeyIsTime z) k s (σ .seat) at (λ j n. h .by-time .seats j); sealed = ti };
         holders = ho;
       }
 
@@ -129,13 +130,14 @@ module _ (opening : Values) where
       go l (no n) = rw (changed-other k s (σ .seat) j n) l
 
   -- only the seat changes
-  pub step-seat : (σ : State) (k : ℕ) (s : Seat) → Inv opening σ → SeatOk opening (σ .order) (σ .version) k s → ((item : ℕ) → Holds (σ .seat k) item → Holds s item) →
+  pub step-seat : (σ : State) (k : ℕ) (s : Seat) → Inv opening σ → SeatOk opening (σ .order) (σ .version) k s → KeyIsTime s →
+      ((item : ℕ) → Holds (σ .seat k) item → Holds s item) →
       Inv opening (record { order = σ .order; version = σ .version; seat = changed k s (σ .seat) })
-  step-seat σ k s h se ho =
+  step-seat σ k s h se at ho =
       step σ (σ .order) (σ .version) k s h (h .sorted) (h .right) (h .versions)
       (λ item. grows-none (σ .order) item (σ .version item))
       (λ j n item. stays-none j (σ .order) item (σ .version item))
-      se (λ item. keep-holds σ k s h item (ho item))
+      se at (h .by-time .sealed) (λ item. keep-holds σ k s h item (ho item))
 
   -- one version grows, the others stay
   pub grows-one : (σ : State) (item : ℕ) (x : Version) → Grows (σ .order) (σ .order) item (σ .version item) x →
@@ -148,15 +150,15 @@ module _ (opening : Values) where
       VersionOk opening (σ .order) item x →
       Grows (σ .order) (σ .order) item (σ .version item) x →
       ((j : ℕ) → j ≢ k → Stays j (σ .order) (σ .order) item (σ .version item) x) →
-      SeatOk opening (σ .order) (changed item x (σ .version)) k s →
+      SeatOk opening (σ .order) (changed item x (σ .version)) k s → KeyIsTime s →
       ((q j : ℕ) → changed item x (σ .version) q .holder ≡ some j → Holds (changed k s (σ .seat) j) q) →
       Inv opening (record { order = σ .order; version = changed item x (σ .version); seat = changed k s (σ .seat) })
-  step-version σ k s item x h ve gr st se ho =
+  step-version σ k s item x h ve gr st se at ho =
       step σ (σ .order) (changed item x (σ .version)) k s h (h .sorted) (h .right)
       (changed-ind (VersionOk opening (σ .order)) item x (σ .version) ve (λ q n. h .versions q))
       (grows-one σ item x gr)
       (λ j n. changed-ind (λ q y. Stays j (σ .order) (σ .order) q (σ .version q) y) item x (σ .version) (st j n) (λ q m. stays-none j (σ .order) q (σ .version q)))
-      se ho
+      se at (h .by-time .sealed) ho
 
   -- one version changes that nobody holds
   pub step-unheld : (σ : State) (item : ℕ) (x : Version) → Inv opening σ → σ .version item .holder ≡ none → x .holder ≡ none →
@@ -171,6 +173,7 @@ module _ (opening : Values) where
         seats = λ j. seat-later (σ .order) (σ .order) (σ .version) (changed item x (σ .version)) (h .versions) (grows-one σ item x gr) j
             (changed-ind (λ q y. Stays j (σ .order) (σ .order) q (σ .version q) y) item x (σ .version) (stays-other j (σ .order) (σ .order) item (σ .version item) x (none-some (σ .version item .holder) j o)) (λ q m. stays-none j (σ .order) q (σ .version q)))
             (σ .seat j) (h .seats j);
+        by-time = h .by-time;
         holders = λ q k. changed-ind (λ i y. y .holder ≡ some k → Holds (σ .seat k) i) item x (σ .version) (λ e. absurd (none-some (x .holder) k p e)) (λ i n. h .holders i k) q;
       }
 

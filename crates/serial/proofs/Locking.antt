@@ -65,7 +65,7 @@ module _ (opening : Values) (t : Tables) (b : Observer) (g : Good opening t b) (
             (shown-lock (some k) true (g .σ .version (w .item)) (getD (t .values) (w .item) 0) word m (λ q. absurd (true≢false q))))
             (becomes-moved (t .seats) k 2 (p + 1)) x
             ((λ i. working (readEntries gr) (sym (seg-more (writeAt gr) p) i)) ∙ sym (nudged-view n (b .seats k .key)))
-            (λ _. seen-nudged n (b .seats k) x (g .agree .seen k (fi .used)) refl refl (λ q. absurd (omega arith)) (λ q. absurd (omega arith)));
+            (λ _. seen-nudged n (b .seats k) x (g .agree .seen k (fi .used)) refl refl (λ q. absurd (omega arith)));
       }
 
   -- THE TIME, all locks held
@@ -103,7 +103,7 @@ module _ (opening : Values) (t : Tables) (b : Observer) (g : Good opening t b) (
           agree = agree-seeing (g .agree) (tables (t .values) (t .words) (put (moved (t .seats) k 3 0) k timeAt tc)) (g .σ .version) k _ (set (movedRow gr 3 0) timeAt tc) refl refl (g .agree .shown)
               (then-put timeAt tc (omega arith) (becomes-moved (t .seats) k 3 0)) x
               ((λ i. checking stamp [] (sym (seg-whole (entryAt gr) (reads gr)) i) (writeEntries gr)) ∙ sym (nudged-view n tc))
-              (λ _. seen-nudged n (b .seats k) x (g .agree .seen k (fi .used)) refl refl (λ _. refl) (λ q. absurd (omega arith)));
+              (λ _. seen-nudged n (b .seats k) x (g .agree .seen k (fi .used)) refl refl (λ q. absurd (omega arith)));
         }
 
   pub lock-ok : Ok opening b (Advance o k) (lockPhase t k)

@@ -53,6 +53,26 @@ module _ (T : Transaction) where
   permuted-placed (Z ∷ S) =
       cond-ind (Permutation (T ∷ Z ∷ S)) (before Z T) (λ _. perm-trans (perm-swap refl refl) (perm-cons refl (permuted-placed S))) (λ _. perm-refl (T ∷ Z ∷ S))
 
+-- all that are placed are there
+placed-in : (T U : Transaction) (S : List Transaction) → (U ≡ T) ⊎ In U S → In U (placed T S)
+unfolding placed
+placed-in T U [] i = ⊎-elim (λ (e : U ≡ T). here e) (λ (j : In U []). absurd (not-nil j)) i
+placed-in T U (Z ∷ S) i =
+    cond-ind (In U) (before Z T)
+    (λ _. ⊎-elim (λ (e : U ≡ T). there (placed-in T U S (inl e)))
+    (λ (j : In U (Z ∷ S)). ⊎-elim (λ (e : U ≡ Z). here e) (λ (k : In U S). there (placed-in T U S (inr k))) (uncons j)) i)
+    (λ _. ⊎-elim (λ (e : U ≡ T). here e) (λ (j : In U (Z ∷ S)). there j) i)
+
+pub in-serial : (U : Transaction) (sealed : List Transaction) → In U sealed → In U (serial sealed)
+unfolding allPlaced
+in-serial U sealed i = go sealed [] (inr i)
+  where
+    go : (Ts S : List Transaction) → In U S ⊎ In U Ts → In U (allPlaced S Ts)
+    go [] S i = ⊎-elim (λ (j : In U S). j) (λ (j : In U []). absurd (not-nil j)) i
+    go (T ∷ Ts) S i = go Ts (placed T S) (⊎-elim
+        (λ (j : In U S). inl (placed-in T U S (inr j)))
+        (λ (j : In U (T ∷ Ts)). ⊎-elim (λ (e : U ≡ T). inl (placed-in T U S (inl e))) (λ (k : In U Ts). inr k) (uncons j)) i)
+
 -- where every key is greater, none is k
 none-with : (k : ℕ) (S : List Transaction) → ((U : Transaction) → In U S → k < U .key) → withKey k S ≡ []
 unfolding withKey

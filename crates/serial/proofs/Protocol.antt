@@ -89,6 +89,17 @@ Holds (working rs ws) item = Named item ws
 Holds (checking t ok rs ws) item = Named item ws
 Holds (storing t ws) item = Named item ws
 
+-- THE KEY IS THE TIME: of the seats that have a stamp, and of the sealed transactions. Nothing else in the protocol says so
+abbrev pub KeyIsTime : Seat → Type 0
+KeyIsTime free = Unit {0}
+KeyIsTime (working rs ws) = Unit {0}
+KeyIsTime (checking t ok rs ws) = t .key ≡ t .time
+KeyIsTime (storing t ws) = t .key ≡ t .time
+
+pub record ByTime (S : List Transaction) (seat : ℕ → Seat) : Type 0 where
+  pub seats : (k : ℕ) → KeyIsTime (seat k)
+  pub sealed : (T : Transaction) → In T S → T .key ≡ T .time
+
 -- a read entry that may pass at a stamp
 pub record Fits (x : Version) (t : Stamp) (e : ReadEntry) : Type 0 where
   pub current : x .wrote ≡ e .wrote → x .from ≤ t .key
@@ -109,7 +120,6 @@ module _ (opening : Values) where
     pub range : x .from ≤ x .upTo
     pub wrote-low : x .from ≤ x .wrote
     pub due-below : (d : Due) → x .due ≡ some d → Below x (d .stamp)
-    pub due-timed : (d : Due) → x .due ≡ some d → d .stamp .key ≡ d .stamp .time
     pub due-held : x .holder ≡ none → x .due ≡ none
     -- from its store up to the one to come, and from that one on
     pub kept : (u : ℕ) → x .from ≤ u → ((d : Due) → x .due ≡ some d → u < d .stamp .key) → val S item u ≡ x .value
@@ -144,7 +154,6 @@ module _ (opening : Values) where
     pub fits : (e : ReadEntry) → In e rs → Fits (c (e .told .item)) t e
     pub held : (w : WriteEntry) → In w ws → Held k (c (w .item))
     pub below : (w : WriteEntry) → In w ws → Below (c (w .item)) t
-    pub timed : t .key ≡ t .time
     pub distinct : Distinct ws
 
   pub record StoringOk (c : ℕ → Version) (k : ℕ) (t : Stamp) (ws : List WriteEntry) : Type 0 where
@@ -164,6 +173,7 @@ module _ (opening : Values) where
     pub right : Right (σ .order) opening
     pub versions : (item : ℕ) → VersionOk (σ .order) item (σ .version item)
     pub seats : (k : ℕ) → SeatOk (σ .order) (σ .version) k (σ .seat k)
+    pub by-time : ByTime (σ .order) (σ .seat)
     pub holders : (item k : ℕ) → σ .version item .holder ≡ some k → Holds (σ .seat k) item
 
   pub upTo-closed : {S : List Transaction} {item : ℕ} (x : Version) → VersionOk S item x → x .upTo ≤ closed x

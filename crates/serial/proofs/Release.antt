@@ -93,7 +93,7 @@ gone opening t b g k n rs σ inv shown o other e known size =
       inv = leaves opening (p .to) (p .inv) k rs (p .left ∙ rw (seg-end (writeAt r) n n (omega arith)));
       agree = agree-others t _ (p .to) b (seeing b k unseen) k (λ j d. p .others j d ∙ other j d ∙ g .agree .rows j) (g .agree .seen) (p .to .order) (p .to .version) free freeRow
           (sized-same (tables (t .values) (released (t .words) r n) (freed (t .seats) k)) (g .agree .sized) refl (length-released (t .words) r n) (be .size)) (p .shown) be
-          refl (λ d. absurd (d refl)) (λ j d. changed-other k unseen (b .seats) j d) (p .order ∙ o ∙ g .agree .order) (g .agree .by-time);
+          refl (λ d. absurd (d refl)) (λ j d. changed-other k unseen (b .seats) j d) (p .order ∙ o ∙ g .agree .order);
     }
 
 -- LET GO, in phases 1 to 3

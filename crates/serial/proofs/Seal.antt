@@ -85,7 +85,6 @@ module _ (opening : Values) (S : List Transaction) (c : ℕ → Version) (so : S
         range = ve item .range;
         wrote-low = ve item .wrote-low;
         due-below = λ d e. rw (is d e) (record { key = named-below item p .key; time = named-below item p .time });
-        due-timed = λ d e. rw (is d e) (h .timed);
         due-held = λ e. absurd (none-some (c item .holder) k e (named-mine item p));
         kept = λ u a b. below item u (b (record { stamp = t; entry = p .0 }) refl) ∙ quiet opening S item (c item) (ve item) (named-idle item p) u a;
         now = λ u a. above item p u a;
@@ -100,7 +99,6 @@ module _ (opening : Values) (S : List Transaction) (c : ℕ → Version) (so : S
         range = ve item .range;
         wrote-low = ve item .wrote-low;
         due-below = ve item .due-below;
-        due-timed = ve item .due-timed;
         due-held = ve item .due-held;
         kept = λ u p q. aside item a u ∙ ve item .kept u p q;
         now = λ u p. aside item a u ∙ ve item .now u p;
@@ -155,10 +153,15 @@ seal-inv opening σ k t ok ws e h =
       due = λ w i. marked-due opening (σ .order) (σ .version) (h .sorted) (h .versions) k t ok ws ck w i (find (w .item) ws);
       distinct = ck .distinct;
     })
+    timed
+    (λ U i. ⊎-elim (λ (z : U ≡ transactionOf t ok ws). rw z timed) (λ (z : In U (σ .order)). h .by-time .sealed U z) (in-placed (transactionOf t ok ws) (σ .order) U i))
     (λ item j q. keep-holds opening σ k (storing t ws) h item (rw e (λ z. z)) j (sym (same-holder item (find item ws)) ∙ q))
   where
     ck : CheckingOk opening (σ .order) (σ .version) k t ok [] ws
     ck = rw e at (h .seats k)
+
+    timed : t .key ≡ t .time
+    timed = rw e at (h .by-time .seats k)
 
     same-holder : (item : ℕ) (d : Named item ws ⊎ Absent item ws) → marked t d (σ .version item) .holder ≡ σ .version item .holder
     same-holder item (inl z) = refl

@@ -66,13 +66,13 @@ module _ (opening : Values) where
 
     -- WRITE: nothing that the protocol sees
     pub rests : Inv opening (reseat σ k (σ .seat k))
-    rests = step-seat opening σ k (σ .seat k) h (h .seats k) (λ item z. z)
+    rests = step-seat opening σ k (σ .seat k) h (h .seats k) (h .by-time .seats k) (λ item z. z)
 
     -- OPEN
     pub opens : σ .seat k ≡ free → Inv opening (reseat σ k (working [] []))
     unfolding Distinct
     opens e =
-        step-seat opening σ k (working [] []) h (record { entries = λ z i. absurd (not-nil i); held = λ z i. absurd (not-nil i); distinct = tt }) (rw e (λ item z. absurd z))
+        step-seat opening σ k (working [] []) h (record { entries = λ z i. absurd (not-nil i); held = λ z i. absurd (not-nil i); distinct = tt }) tt (rw e (λ item z. absurd z))
 
     -- READ
     pub reads : (rs : List ReadEntry) (ws : List WriteEntry) (item : ℕ) → σ .seat k ≡ working rs ws →
@@ -86,6 +86,7 @@ module _ (opening : Values) where
           held = w .held;
           distinct = w .distinct;
         })
+        tt
         (rw e (λ q z. z))
 
     -- LOCK
@@ -110,6 +111,7 @@ module _ (opening : Values) where
               (append-cases ws i);
           distinct = distinct-more ws w (wo .distinct) far;
         })
+        tt
         (others-hold s item y
         (λ j q. rw (some-same (some k) j k q refl, changed-same k s (σ .seat)) (w, append-right ws (here refl), refl))
         (rw e (λ q n z. (z .0, append-left (w ∷ []) (z .1), z .2))))
@@ -121,7 +123,8 @@ module _ (opening : Values) where
     times t rs ws e timed a b =
         let w : WorkingOk opening (σ .order) (σ .version) k rs ws = rw e at (h .seats k) in
         step-seat opening σ k (checking t [] rs ws) h
-        (record { passed = λ z i. absurd (not-nil i); entries = w .entries; fits = a; held = w .held; below = b; timed = timed; distinct = w .distinct })
+        (record { passed = λ z i. absurd (not-nil i); entries = w .entries; fits = a; held = w .held; below = b; distinct = w .distinct })
+        timed
         (rw e (λ q z. z))
 
     -- CHECK: a read entry that is covered passes
@@ -136,9 +139,9 @@ module _ (opening : Values) where
           fits = λ z i. w .fits z (there i);
           held = w .held;
           below = w .below;
-          timed = w .timed;
           distinct = w .distinct;
         })
+        (rw q at (h .by-time .seats k))
         (rw q (λ r z. z))
 
     pub passes : (t : Stamp) (ok rs : List ReadEntry) (ws : List WriteEntry) (e : ReadEntry) → σ .seat k ≡ checking t ok (e ∷ rs) ws → Passes (σ .version (e .told .item)) t ws e →
@@ -158,8 +161,9 @@ module _ (opening : Values) where
         let x = σ .version item in
         let y = stored t w x in
         let due = so .due w (here refl) in
+        let timed : t .key ≡ t .time = rw e at (h .by-time .seats k) in
         step-version opening σ k (storing t ws) item y h
-        (stored-ok opening (σ .order) item x (h .versions item) t w due)
+        (stored-ok opening (σ .order) item x (h .versions item) t w due timed)
         (stored-grows opening (σ .order) item x (h .versions item) t w due)
         (λ j n. stays-other opening j (σ .order) (σ .order) item x y (λ q. n (some-same (x .holder) j k q (so .mine w (here refl)))))
         (record {
@@ -167,17 +171,18 @@ module _ (opening : Values) where
           due = λ v i. rw (changed-other item y (σ .version) (v .item) (so .distinct .0 v i)) (so .due v (there i));
           distinct = so .distinct .1;
         })
+        timed
         (others-hold (storing t ws) item y (λ j z. absurd (none-some {A = ℕ} none j refl z)) (rw e (fewer w ws)))
 
     -- DONE
     pub finishes : (t : Stamp) → σ .seat k ≡ storing t [] → Inv opening (reseat σ k free)
-    finishes t e = step-seat opening σ k free h tt (rw e (λ item z. absurd (not-nil (z .1))))
+    finishes t e = step-seat opening σ k free h tt tt (rw e (λ item z. absurd (not-nil (z .1))))
 
     -- AN ABORT, or Abandon: back to work, then lock by lock, and out
     pub retreats : (t : Stamp) (ok rs : List ReadEntry) (ws : List WriteEntry) → σ .seat k ≡ checking t ok rs ws → Inv opening (reseat σ k (working [] ws))
     retreats t ok rs ws e =
         let w : CheckingOk opening (σ .order) (σ .version) k t ok rs ws = rw e at (h .seats k) in
-        step-seat opening σ k (working [] ws) h (record { entries = λ z i. absurd (not-nil i); held = w .held; distinct = w .distinct }) (rw e (λ item z. z))
+        step-seat opening σ k (working [] ws) h (record { entries = λ z i. absurd (not-nil i); held = w .held; distinct = w .distinct }) tt (rw e (λ item z. z))
 
     pub unlocks : (rs : List ReadEntry) (ws : List WriteEntry) (w : WriteEntry) → σ .seat k ≡ working rs (w ∷ ws) →
         Inv opening (reseat (reversion σ (w .item) (withHolder none (σ .version (w .item)))) k (working rs ws))
@@ -195,10 +200,11 @@ module _ (opening : Values) where
           held = λ v i. rw (changed-other item y (σ .version) (v .item) (wo .distinct .0 v i)) (wo .held v (there i));
           distinct = wo .distinct .1;
         })
+        tt
         (others-hold (working rs ws) item y (λ j z. absurd (none-some {A = ℕ} none j refl z)) (rw e (fewer w ws)))
 
     pub leaves : (rs : List ReadEntry) → σ .seat k ≡ working rs [] → Inv opening (reseat σ k free)
-    leaves rs e = step-seat opening σ k free h tt (rw e (λ item z. absurd (not-nil (z .1))))
+    leaves rs e = step-seat opening σ k free h tt tt (rw e (λ item z. absurd (not-nil (z .1))))
 
   -- CHECK that extends, one step: the version is still the one that was read and nobody holds it; `wrote` is its write time from now on
   pub renews : (σ : State) → Inv opening σ → (k : ℕ) (t : Stamp) (ok rs : List ReadEntry) (ws : List WriteEntry) (e : ReadEntry) (wrote : ℕ) → σ .seat k ≡ checking t ok (e ∷ rs) ws →

@@ -26,7 +26,7 @@ use Rattle.serial.proofs.Versions.{stored}
 use Rattle.serial.proofs.Steps.{reseat, reversion, stores, finishes}
 use Rattle.observer.proofs.Segments.{seg, seg-next, seg-end}
 use Rattle.serial.proofs.View.{seatOf, view-storing, nudged-view}
-use Rattle.serial.proofs.Agree.{Shown, SeenOk, Good, stampAt, keyed-at, Ok, shown-set, seen-nudged, agree-seeing}
+use Rattle.serial.proofs.Agree.{Shown, SeenOk, Good, stampAt, Ok, shown-set, seen-nudged, agree-seeing}
 
 module _ (opening : Values) (t : Tables) (b : Observer) (g : Good opening t b) (o k last : ℕ) (fi : Fine t o k 0 last) (four : phase (row (t .seats) k) ≡ 4) where
   abbrev gr : List ℕ
@@ -35,14 +35,14 @@ module _ (opening : Values) (t : Tables) (b : Observer) (g : Good opening t b) (
   seen : SeenOk gr (b .seats k)
   seen = g .agree .seen k (fi .used)
 
-  keyed : b .seats k .key ≡ time gr
-  keyed = keyed-at g k (omega arith)
-
   abbrev stamp : Stamp
   stamp = stampAt t b k
 
   is-storing : g .σ .seat k ≡ storing stamp (seg (writeAt gr) (position gr) (writes gr - position gr))
   is-storing = g .agree .rows k ∙ view-storing (b .seats k .key) gr four
+
+  keyed : b .seats k .key ≡ time gr
+  keyed = rw is-storing at (g .inv .by-time .seats k)
 
   -- THE STORE of the write entry at position
   module _ (l : position gr < writes gr) where
@@ -81,7 +81,7 @@ module _ (opening : Values) (t : Tables) (b : Observer) (g : Good opening t b) (
                 idle = λ _. refl;
               }))
               (becomes-put (t .seats) k positionAt (p + 1) (omega arith)) x (sym (nudged-view n (b .seats k .key)))
-              (λ _. seen-nudged n (b .seats k) x seen refl refl (λ _. keyed) (λ _. omega (arith, seen .is-left four)));
+              (λ _. seen-nudged n (b .seats k) x seen refl refl (λ _. omega (arith, seen .is-left four)));
         }
 
   -- DONE, all stored

@@ -24,6 +24,7 @@ use Rattle.rows.specs.Begin.{begun, setup-ready, length-laid, laid-row}
 use Rattle.observer.specs.Observer.{Observer, begunWith, nothing, observe, observed, isSetup, begins, NoSetup, SomeSetup}
 use Rattle.observer.proofs.Changes.{begins-anew, begins-is}
 use Rattle.serial.specs.Statement.{Values, AllStored, valuesOf, Serializable, SerialOrder, openingFrom, SinceLastSetup, allPlaced}
+use Rattle.serial.proofs.Order.{in-serial}
 use Rattle.serial.proofs.Protocol.{Left}
 use Rattle.serial.proofs.Final.{begin, begin-inv, inv-final}
 use Rattle.observer.proofs.Segments.{seg-in}
@@ -56,7 +57,6 @@ setup-good t start plan told e =
         rows = λ k. rw (idle k);
         seen = λ k d. absurd (d (idle k));
         order = refl;
-        by-time = λ T i. absurd (not-nil i);
       };
     }
 
@@ -162,7 +162,7 @@ promised opening t b g =
       final = λ all item l.
           rw (← g .agree .order) (inv-final opening (g .σ) (g .inv) (λ k q z. none all k (left-row (b .seats k .key) (row (t .seats) k) q (rw (g .agree .rows k) at z)) (decLt k seatCount)) item)
           ∙ g .agree .shown item (omega (arith, g .agree .sized .same)) .is-value;
-      by-time = g .agree .by-time;
+      by-time = λ T i. g .inv .by-time .sealed T (rw (g .agree .order) (in-serial T (b .sealed) i));
     }
   where
     none : AllStored b → (k : ℕ) → (phase (row (t .seats) k) ≡ 4) × (position (row (t .seats) k) < writes (row (t .seats) k)) → Dec (k < seatCount) → ⊥

@@ -33,7 +33,6 @@ module _ (opening : Values) (S : List Transaction) (item : ℕ) (x : Version) (h
         range = h .range;
         wrote-low = h .wrote-low;
         due-below = λ d e. absurd (none-some (x .due) d q e);
-        due-timed = h .due-timed;
         due-held = λ p. q;
         kept = h .kept;
         now = h .now;
@@ -55,7 +54,6 @@ module _ (opening : Values) (S : List Transaction) (item : ℕ) (x : Version) (h
           range = let l = h .range in omega arith;
           wrote-low = let l = h .wrote-low in omega arith;
           due-below = λ d e. absurd (none-some (x .due) d idle e);
-          due-timed = h .due-timed;
           due-held = h .due-held;
           kept = h .kept;
           now = h .now;
@@ -71,14 +69,12 @@ module _ (opening : Values) (S : List Transaction) (item : ℕ) (x : Version) (h
         record { newer = a; longer = c; wider = rw idle c; past = λ u p. refl; same-value = λ p. refl; same-from = λ p. refl }
 
   module _ (t : Stamp) (w : WriteEntry) (due : x .due ≡ some (record { stamp = t; entry = w })) where
-    pub stored-ok : VersionOk opening S item (stored t w x)
-    stored-ok =
-        let timed = h .due-timed (record { stamp = t; entry = w }) due in
+    pub stored-ok : t .key ≡ t .time → VersionOk opening S item (stored t w x)
+    stored-ok timed =
         record {
           range = omega arith;
           wrote-low = omega arith;
           due-below = λ d e. absurd (none-some {A = Due} none d refl e);
-          due-timed = λ d e. absurd (none-some {A = Due} none d refl e);
           due-held = λ p. refl;
           kept = λ u p q. last u p;
           now = last;

@@ -34,7 +34,7 @@ use Rattle.serial.proofs.Agree.{Shown, SeenOk, Good, Ok, refused, unles
 
 -- a row in phase 1 has neither key nor stores to come
 seen-working : (g : List ℕ) (x : Seen) → phase g ≡ 1 → Shows g x → SeenOk g x
-seen-working g x one z = record { shows = z; is-key = λ l. absurd (omega arith); is-left = λ e. absurd (omega arith) }
+seen-working g x one z = record { shows = z; is-left = λ e. absurd (omega arith) }
 
 module _ (opening : Values) (t : Tables) (b : Observer) (g : Good opening t b) where
   -- OPEN: the lowest free seat is free
