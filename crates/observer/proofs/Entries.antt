@@ -5,7 +5,7 @@ use mathlib.Core.List.{List, [], _∷_, _++_}
 use native.Mathlib.Omega.{arith}
 use lib.ListN.{getD}
 use Rattle.rules.specs.Layout.{mostReads, readsAt, writesAt, timeAt, readItemAt, readValueAt, writeItemAt, writeValueAt, reads, writes, readItem, readValue, writeItem, writeValue}
-use Rattle.rows.specs.Changed.{Nudged, Noted}
+use Rattle.rows.specs.Changed.{Nudged, WithRead}
 use Rattle.observer.specs.Observer.{FirstRead, WriteEntry}
 use Rattle.observer.proofs.Segments.{seg, seg-ext, seg-more}
 
@@ -54,7 +54,7 @@ module _ {g h : List ℕ} {ph p t : ℕ} (n : Nudged g h ph p t) where
   nudged-writeEntries = λ z. seg (nudged-write z) 0 (nudged-writes z)
 
 -- A ROW WITH A NEW READ ENTRY has that after the others, and its write entries
-module _ {g h : List ℕ} {item value wrote upTo : ℕ} (n : Noted g h item value wrote upTo) (few : reads g < mostReads) where
+module _ {g h : List ℕ} {item value wrote upTo : ℕ} (n : WithRead g h item value wrote upTo) (few : reads g < mostReads) where
   noted-read : (i : ℕ) → i < reads g → readAt h i ≡ readAt g i
   noted-read i l = read-same g h i i (n .before (readItemAt i) (omega arith) (omega arith)) (n .before (readValueAt i) (omega arith) (omega arith))
 

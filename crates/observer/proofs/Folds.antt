@@ -13,7 +13,7 @@ use Rattle.rules.specs.Tests.{scan}
 use Rattle.rules.specs.Layout.{rowWidth, writeWidth, mostReads, mostWrites, readsAt, writesAt, readItemAt, readValueAt, writesFrom, writeItemAt, writeValueAt, reads, writes}
 use Rattle.rules.specs.Work.{writeNames, writeOf, above, placeOf}
 use Rattle.rows.specs.Search.{first-le}
-use Rattle.rows.specs.Changed.{Placed}
+use Rattle.rows.specs.Changed.{WithWrite}
 use Rattle.observer.specs.Observer.{WriteEntry, folded, renewed, inserted}
 use Rattle.observer.proofs.Segments.{seg, seg-ext}
 use Rattle.observer.proofs.Entries.{readAt, writeAt, firstReads, writeEntries, read-same, write-same}
@@ -104,7 +104,7 @@ module _ (g : List ℕ) (item v : ℕ) (size : length g ≡ rowWidth) (few : wri
       (λ z. record { item = at-item z; value = at-value z }))
 
 -- a new entry in its place
-module _ (g h : List ℕ) (item v : ℕ) (p : Placed g h (placeOf g item) item v) where
+module _ (g h : List ℕ) (item v : ℕ) (p : WithWrite g h (placeOf g item) item v) where
   pub placed-front : SameFront g h
   placed-front f d l = p .before f d (omega arith)
 

@@ -9,7 +9,7 @@ use lib.ListN.{length, set}
 use Rattle.rules.specs.Layout.{rowWidth, mostReads, mostWrites, writeValueAt, reads, writes}
 use Rattle.rules.specs.Work.{readNames, writeNames, readOf, writeOf, placeOf}
 use Rattle.rules.specs.declared.Answer.the-variants.{Value, Noted}
-use Rattle.rows.specs.Changed as C
+use Rattle.rows.specs.Changed.{WithRead, WithWrite}
 use Rattle.observer.specs.Observer.{FirstRead, WriteEntry, Seen, isRead, isWritten, isKnown, onRead, renewed, inserted, onWrite}
 use Rattle.observer.proofs.Segments.{has-any}
 use Rattle.observer.proofs.Entries.{readAt, writeAt, firstReads, writeEntries, noted-firstReads, noted-writeEntries}
@@ -38,7 +38,7 @@ module _ (g : List ℕ) (x : Seen) (z : Shows g x) (item : ℕ) where
   unfolding onRead
   read-known v e = rw e
 
-  pub read-shows : (h : List ℕ) (v wrote upTo : ℕ) → C.Noted g h item v wrote upTo → reads g < mostReads → isKnown x item ≡ false →
+  pub read-shows : (h : List ℕ) (v wrote upTo : ℕ) → WithRead g h item v wrote upTo → reads g < mostReads → isKnown x item ≡ false →
       Shows h (onRead x item (Value v))
   unfolding onRead
   read-shows h v wrote upTo n few e =
@@ -61,7 +61,7 @@ module _ (g : List ℕ) (x : Seen) (z : Shows g x) (item : ℕ) where
       write-shows _ v (renewed-front g item v size few found) few-reads
       (renewed-writes g item v size few found ∙ ap (renewed item v) (z .is-writes) ∙ (unfold onWrite in rw (sees-write ∙ e)))
 
-  pub placed-shows : (h : List ℕ) (v : ℕ) → C.Placed g h (placeOf g item) item v → reads g ≤ mostReads → ltb (writeOf g item) (writes g) ≡ false →
+  pub placed-shows : (h : List ℕ) (v : ℕ) → WithWrite g h (placeOf g item) item v → reads g ≤ mostReads → ltb (writeOf g item) (writes g) ≡ false →
       Shows h (onWrite x item v (Noted item))
   placed-shows h v p few e =
       write-shows h v (placed-front g h item v p) few

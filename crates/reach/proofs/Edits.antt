@@ -21,18 +21,17 @@ use Rattle.rules.specs.declared.Answer.{Answer}
 use Rattle.rules.specs.declared.Answer.the-variants.{Value, Noted, Refused}
 use Rattle.rows.specs.Search.{first-le, first-hit}
 use Rattle.rows.specs.Fine.{cond-ind}
-use Rattle.rows.specs.Changed as C
-use Rattle.rows.specs.Changed.{notedRow, noted-row, placedRow, placed-row}
+use Rattle.rows.specs.Changed.{WithRead, WithWrite, notedRow, noted-row, placedRow, placed-row}
 use Rattle.rows.specs.Becomes.{Becomes, becomes-put, becomes-noted, becomes-placed}
 use Rattle.observer.specs.Observer.{Seen, isKnown, entered, onRead, onWrite}
 use Rattle.observer.proofs.Shows.{Shows, sees-known, read-known, read-shows, renewed-shows, placed-shows}
 use Rattle.reach.specs.Life.{script}
 use Rattle.reach.proofs.Tests.{by, before-first}
 use Rattle.reach.proofs.Count.{one}
-use Rattle.reach.proofs.Order.{Entries, Used, locks, InOrder}
+use Rattle.reach.proofs.InOrder.{Entries, Used, locks, InOrder}
 use Rattle.reach.proofs.Named.{locks-none}
-use Rattle.reach.proofs.Rows.{row-used, to-early, passes-early}
-use Rattle.reach.proofs.Books.{held-less}
+use Rattle.reach.proofs.Rows.{row-used, to-early, steps-early}
+use Rattle.reach.proofs.WithinPlan.{held-less}
 use Rattle.reach.proofs.Inserted.{Put, put-all, put-ascending}
 use Rattle.reach.proofs.Steps.{seenOf, row-shows, seen-as, left-none, Step, step-keep}
 
@@ -81,8 +80,8 @@ module _ (t : Tables) (s : ℕ) (k : InOrder t) (u : Used (length (t .words)) (r
   size = length-row (t .seats) s (k .sized .rows) small
 
   -- the tables stay: a value told again, a refusal
-  told-again : (item v : ℕ) → isKnown (seenOf g) item ≡ true → Step t s (λ x a. onRead x item a) (keep t (Value v))
-  told-again item v h =
+  tells-again : (item v : ℕ) → isKnown (seenOf g) item ≡ true → Step t s (λ x a. onRead x item a) (keep t (Value v))
+  tells-again item v h =
       step-keep t s _ (Value v) (row-used u)
       (record { shown = sym (read-known g (seenOf g) (row-shows g) item v h); fair = λ e. absurd (omega arith); plain = λ e. omega arith })
 
@@ -90,7 +89,7 @@ module _ (t : Tables) (s : ℕ) (k : InOrder t) (u : Used (length (t .words)) (r
   refuses f n d e = step-keep t s f (Refused n) (row-used u) (record { shown = sym e; fair = λ q. d; plain = λ e. omega arith })
 
   none-told : (h : List ℕ) → phase h ≡ 1 → position h ≡ 0 → seenOf h .advances ≡ []
-  none-told h p q = ap (λ (n : ℕ). take n (script (writes h) (reads h))) (passes-early h (omega arith) ∙ q)
+  none-told h p q = ap (λ (n : ℕ). take n (script (writes h) (reads h))) (steps-early h (omega arith) ∙ q)
 
   -- the row changes in its entries alone
   edited : (f : Seen → Answer → Seen) (seats h : List ℕ) (a : Answer) → EntersAlone f → kind a ≢ ready → kind a ≢ refused → Shows h (f (seenOf g) a) →
@@ -145,7 +144,7 @@ module _ (t : Tables) (s : ℕ) (k : InOrder t) (u : Used (length (t .words)) (r
   note-ok y v word inside ew few unread un =
       let n : ℕ = reads g in
       let h : List ℕ = notedRow g y v (writeTime word) (readTime word) in
-      let z : C.Noted g h y v (writeTime word) (readTime word) = noted-row g y v (writeTime word) (readTime word) size (omega arith) in
+      let z : WithRead g h y v (writeTime word) (readTime word) = noted-row g y v (writeTime word) (readTime word) size (omega arith) in
       let m3 : reads h ≡ n + 1 = z .count in
       let m4 : writes h ≡ writes g = z .before writesAt (omega arith) (omega arith) in
       let item : readItem h n ≡ y = z .has-item in
@@ -182,8 +181,8 @@ module _ (t : Tables) (s : ℕ) (k : InOrder t) (u : Used (length (t .words)) (r
   unfolding readIn firstRead
   read-ok y inside =
       let known = sees-known g (seenOf g) (row-shows g) y in
-      by (ltb (writeOf g y) (writes g)) (λ e. rw e (told-again y _ (known ∙ rw e refl)))
-      (λ e0. rw e0 (by (ltb (readOf g y) (reads g)) (λ e. rw e (told-again y _ (known ∙ rw (e0, e) refl)))
+      by (ltb (writeOf g y) (writes g)) (λ e. rw e (tells-again y _ (known ∙ rw e refl)))
+      (λ e0. rw e0 (by (ltb (readOf g y) (reads g)) (λ e. rw e (tells-again y _ (known ∙ rw (e0, e) refl)))
       (λ e1. rw e1 (by (leb mostReads (reads g)) (λ e. rw e (read-refused 8 (omega arith)))
       (λ e2. rw e2 (by (isLocked (getD (t .words) y 0)) (λ e. rw e (read-refused 10 (omega arith)))
       (λ e3. rw e3 (note-ok y (getD (t .values) y 0) (getD (t .words) y 0) inside refl (leb-false mostReads (reads g) e2)
@@ -250,7 +249,7 @@ module _ (t : Tables) (s : ℕ) (k : InOrder t) (u : Used (length (t .words)) (r
       let behind = place-behind x in
       let n : ℕ = writes g in
       let h : List ℕ = placedRow g i x v in
-      let z : C.Placed g h i x v = placed-row g i x v size fits (omega arith) in
+      let z : WithWrite g h i x v = placed-row g i x v size fits (omega arith) in
       let e = u .entries in
       let er = e .reads-in in
       let m3 : reads h ≡ reads g = z .before readsAt (omega arith) (omega arith) in

@@ -23,11 +23,11 @@ use Rattle.reach.specs.Counts.{isOf, seatsOf}
 use Rattle.reach.specs.FairShare.{holding, shareOf, limitOf, U, asks, Given, Fair, FairShare}
 use Rattle.reach.proofs.Tests.{by, before-first}
 use Rattle.reach.proofs.Count.{one, sum-same, sum-change, count-same}
-use Rattle.reach.proofs.Order.{InOrder}
-use Rattle.reach.proofs.Books.{heldBy, held-mine, held-not, held-free, planned}
+use Rattle.reach.proofs.InOrder.{InOrder}
+use Rattle.reach.proofs.WithinPlan.{heldBy, held-mine, held-not, held-free, planned}
 use Rattle.reach.proofs.Opens.{open-refusal, open-no-owner, free-seat}
 use Rattle.reach.proofs.Reached.{reached-in-order}
-use Rattle.reach.proofs.Observed.{seat-is, plan-kept}
+use Rattle.reach.proofs.Observed.{seat-is, plan-stays}
 
 -- what Open comes to
 pub opens : (t : Tables) (o : ℕ) → openRefusal t o ≡ 0 →
@@ -36,10 +36,10 @@ unfolding step openSeat
 opens t o e = rw e refl
 
 pub opens-not : (t : Tables) (o n : ℕ) → n ≢ 0 → openRefusal t o ≡ n → asks t o ≡ Refused n
-opens-not t o n d e = ap (λ (z : Outcome). z .answer) kept
+opens-not t o n d e = ap (λ (z : Outcome). z .answer) same
   where
-    kept : step t (Open o) ≡ keep t (Refused n)
-    kept = unfold step openSeat in rw (e, ne-eqb n 0 d) refl
+    same : step t (Open o) ≡ keep t (Refused n)
+    same = unfold step openSeat in rw (e, ne-eqb n 0 d) refl
 
 -- the three answers to an owner
 pub data Asked (t : Tables) (o : ℕ) : Type 0 where
@@ -51,7 +51,7 @@ pub asked : (t : Tables) → InOrder t → (o : ℕ) → o < owners → Asked t 
 unfolding crowded
 asked t k o small =
     let e = open-refusal t k o small in
-    let most = k .books .limits o small in
+    let most = k .within .limits o small in
     by (leb (limitOf t o) (holding t o))
     (λ a. let x = leb-true (limitOf t o) (holding t o) a in at-limit (omega arith) (opens-not t o 6 (omega arith) (e ∙ rw a refl)))
     (λ a. let x = leb-false (limitOf t o) (holding t o) a in
@@ -83,15 +83,15 @@ module _ (t : Tables) (k : InOrder t) (o : ℕ) (small : o < owners) where
   fair-from : Asked t o → Fair t o
   fair-from (at-limit a e) =
       let kd : kind (asks t o) ≡ refused = ap kind e in
-      let sh = planned (t .seats) (k .books .plan) .shares o small in
+      let sh = planned (t .seats) (k .within .plan) .shares o small in
       record {
         below-share = λ h. absurd (omega arith);
         six = (λ q. a, λ q. e);
         seven = λ d. absurd (d a);
         else-seat = (λ q. absurd (omega arith), λ q. absurd (q .0 a));
         lowest-given = λ q. absurd (omega arith);
-        within-limit = k .books .limits o small;
-        share-kept = sh;
+        within-limit = k .within .limits o small;
+        share-within = sh;
       }
   fair-from (no-room d h u e) =
       let kd : kind (asks t o) ≡ refused = ap kind e in
@@ -102,8 +102,8 @@ module _ (t : Tables) (k : InOrder t) (o : ℕ) (small : o < owners) where
         seven = λ x y. (λ q. u, λ q. e);
         else-seat = (λ q. absurd (omega arith), λ q. absurd (⊎-elim (λ x. omega arith) (λ x. x u) (q .1)));
         lowest-given = λ q. absurd (omega arith);
-        within-limit = k .books .limits o small;
-        share-kept = planned (t .seats) (k .books .plan) .shares o small;
+        within-limit = k .within .limits o small;
+        share-within = planned (t .seats) (k .within .plan) .shares o small;
       }
   fair-from (gets-seat d h e) =
       let kd : kind (asks t o) ≡ seat = ap kind (told-seat e) in
@@ -113,8 +113,8 @@ module _ (t : Tables) (k : InOrder t) (o : ℕ) (small : o < owners) where
         seven = λ x y. (λ q. absurd (let y : kind (asks t o) ≡ refused = ap kind q in omega arith), λ q. absurd (⊎-elim (λ z. omega arith) (λ z. z q) h));
         else-seat = (λ q. (d, h), λ q. kd);
         lowest-given = λ q. rw (told-seat e) (given e);
-        within-limit = k .books .limits o small;
-        share-kept = planned (t .seats) (k .books .plan) .shares o small;
+        within-limit = k .within .limits o small;
+        share-within = planned (t .seats) (k .within .plan) .shares o small;
       }
 
 -- a seat in use is held by one owner
@@ -158,14 +158,14 @@ pub fair-share : (t : Tables) (z : Reached t) → FairShare t z
 unfolding held
 fair-share t z =
     let k = reached-in-order t z in
-    let p = planned (t .seats) (k .books .plan) in
+    let p = planned (t .seats) (k .within .plan) in
     record {
       each = λ o h. fair-from t k o h (asked t k o h);
-      plan-kept = λ o h. (plan-kept t z (shareAt o) (omega arith), plan-kept t z (limitAt o) (omega arith));
+      plan-stays = λ o h. (plan-stays t z (shareAt o) (omega arith), plan-stays t z (limitAt o) (omega arith));
       held-seen = held-seen t z;
       no-owner = λ o h. opens-not t o 2 (omega arith) (open-no-owner t k o h);
       all-held = all-held (t .seats) seatCount (λ s h d. k .rows s h .in-use d .head .owner-in);
       limits-fit = p .limits;
       shares-fit = p .total;
-      room = k .books .room;
+      U-fits = k .within .claims-fit;
     }

@@ -28,10 +28,10 @@ use Rattle.reach.specs.Invariants.{lockFrom, lockTo}
 use Rattle.reach.specs.Life.{script}
 use Rattle.reach.proofs.Tests.{by}
 use Rattle.reach.proofs.Count.{one, one-le}
-use Rattle.reach.proofs.Order.{Zero, Used, locks, lockBit}
+use Rattle.reach.proofs.InOrder.{Zero, Used, locks, lockBit}
 use Rattle.reach.proofs.Named.{named-has, named-none, locks-none}
-use Rattle.reach.proofs.Rows.{row-zero, from-zero, to-early, to-held, passes-early}
-use Rattle.reach.proofs.Books.{held-free}
+use Rattle.reach.proofs.Rows.{row-zero, from-zero, to-early, to-held, steps-early}
+use Rattle.reach.proofs.WithinPlan.{held-free}
 use Rattle.reach.proofs.Steps.{seenOf, seen-as, left-none, Step}
 
 -- THE WORDS with a row's first n locks cleared
@@ -94,7 +94,7 @@ module _ (g : List ℕ) (z : Zero g) where
       (record {
         is-open = rw (eq-eqb (phase g) 0 e) refl;
         is-holder = z ownerAt (omega arith);
-        is-advances = ap (λ (n : ℕ). take n (script (writes g) (reads g))) (passes-early g (omega arith) ∙ z positionAt (omega arith));
+        is-advances = ap (λ (n : ℕ). take n (script (writes g) (reads g))) (steps-early g (omega arith) ∙ z positionAt (omega arith));
         is-sealed = ne-eqb (phase g) 4 none;
         shows = record { is-reads = ap (seg (readAt g) 0) (z readsAt (omega arith)); is-writes = ap (seg (writeAt g) 0) (z writesAt (omega arith)) };
         is-locked = locks-free;

@@ -23,7 +23,7 @@ use Rattle.reach.specs.Invariants.{ReadsDistinct, ReadsInOrder, ReadsInR
 use Rattle.reach.specs.Invariants.{FreeRowsZero, WordsTimely, KeptTimely, CommitTimely, KeptOrdered, CommitNotBelow}
 use Rattle.reach.proofs.Tests.{by}
 use Rattle.reach.proofs.Count.{one, one-le, count-has, count-some, count-two}
-use Rattle.reach.proofs.Order.{locks, InOrder, Used}
+use Rattle.reach.proofs.InOrder.{locks, InOrder, Used}
 use Rattle.reach.proofs.Named.{named-yes, named-has}
 use Rattle.reach.proofs.Rows.{undamaged}
 use Rattle.reach.proofs.Reached.{reached-in-order}

@@ -28,12 +28,12 @@ use Rattle.observer.proofs.Entries.{writeAt, writeEntries, nudged-at, nudged-re
 use Rattle.reach.specs.Invariants.{lockFrom, lockTo}
 use Rattle.reach.proofs.Tests.{by, or-true, or-false}
 use Rattle.reach.proofs.Count.{one, one-le}
-use Rattle.reach.proofs.Order.{Head, Used, locks, passes, lockBit}
-use Rattle.reach.proofs.Script.{script-length, Word, says-locked, says-timed, says-checked, says-sealed, says-stored, word-next}
+use Rattle.reach.proofs.InOrder.{Head, Used, locks, stepsTaken, lockBit}
+use Rattle.reach.proofs.Script.{script-length, NextKind, says-locked, says-timed, says-checked, says-sealed, says-stored, kind-next}
 use Rattle.reach.proofs.Named.{named-yes, named-no, named-same, locks-same, locks-none}
-use Rattle.reach.proofs.Rows.{nudged-owner, nudged-head, used-nudged, row-used, from-zero, from-four, to-early, to-late, passes-early, passes-three, passes-four, early-fits}
-use Rattle.reach.proofs.Books.{held-less}
-use Rattle.reach.proofs.Steps.{Follows, StaysTimely, seenOf, seen-as, left-four, left-none, Told, Step, set-ind}
+use Rattle.reach.proofs.Rows.{nudged-owner, nudged-head, used-nudged, row-used, from-zero, from-four, to-early, to-late, steps-early, steps-three, steps-four, early-fits}
+use Rattle.reach.proofs.WithinPlan.{held-less}
+use Rattle.reach.proofs.Steps.{Follows, StaysTimely, seenOf, seen-as, left-four, left-none, Tells, Step, set-ind}
 use Rattle.reach.proofs.Freed.{Ends, free-step, lets-go}
 
 -- the answers that end a transaction
@@ -65,14 +65,14 @@ record Further (g h : List ℕ) (k : ℕ) : Type 0 where
   most : k ≤ stored
   was-used : 1 ≤ phase g
   is-used : 1 ≤ phase h
-  fits : passes g < 2 * writes g + reads g + 3
-  further : passes h ≡ passes g + 1
+  fits : stepsTaken g < 2 * writes g + reads g + 3
+  further : stepsTaken h ≡ stepsTaken g + 1
 
 -- a nudge leaves the entries, and so what is written and read
-told-more : {g h : List ℕ} {ph p tm : ℕ} (a : Answer) (b : Bool) (held : ℕ → Bool) (key left : ℕ) → Nudged g h ph p tm →
-    Word (writes g) (reads g) (passes g) (kind a) → Further g h (kind a) → eqb (phase h) 4 ≡ b → ((x : ℕ) → locks h x ≡ held x) → tm ≡ key →
-    cond (eqb (phase h) 4) (writes h - position h) 0 ≡ left → oneMore (seenOf g) a b held key left ≡ onAdvance (seenOf g) a → Told onAdvance g h a
-told-more {g} {h} a b held key left n x f e holds is-key is-left same =
+tells-more : {g h : List ℕ} {ph p tm : ℕ} (a : Answer) (b : Bool) (held : ℕ → Bool) (key left : ℕ) → Nudged g h ph p tm →
+    NextKind (writes g) (reads g) (stepsTaken g) (kind a) → Further g h (kind a) → eqb (phase h) 4 ≡ b → ((x : ℕ) → locks h x ≡ held x) → tm ≡ key →
+    cond (eqb (phase h) 4) (writes h - position h) 0 ≡ left → oneMore (seenOf g) a b held key left ≡ onAdvance (seenOf g) a → Tells onAdvance g h a
+tells-more {g} {h} a b held key left n x f e holds is-key is-left same =
     let w = nudged-writes n in
     let r = nudged-reads n in
     let z = script-length (writes g) (reads g) in
@@ -83,7 +83,7 @@ told-more {g} {h} a b held key left n x f e holds is-key is-left same =
           (record {
             is-open = ap not (ne-eqb (phase h) 0 (let q = f .is-used in omega arith) ∙ sym (ne-eqb (phase g) 0 (let q = f .was-used in omega arith)));
             is-holder = nudged-owner n;
-            is-advances = rw (f .further, w, r) (word-next x (λ q. omega (arith, f .most)) (omega arith));
+            is-advances = rw (f .further, w, r) (kind-next x (λ q. omega (arith, f .most)) (omega arith));
             is-sealed = e;
             shows = record { is-reads = nudged-firstReads n; is-writes = nudged-writeEntries n };
             is-locked = holds;
@@ -105,7 +105,7 @@ module _ (t : Tables) (s : ℕ) (size : length (t .seats) ≡ seatsLength) (smal
   -- a step whose row is nudged
   nudge-step : (values words seats h : List ℕ) (a : Answer) {ph p tm : ℕ} → Becomes (t .seats) seats s h → Nudged g h ph p tm →
       length values ≡ length (t .values) → length words ≡ length (t .words) → Head h → (3 ≤ ph → (i : ℕ) → i < reads g → keptWrite g i ≤ tm) →
-      Follows (t .words) words g h → StaysTimely (t .words) words → Told onAdvance g h a → Step t s onAdvance (after a values words seats)
+      Follows (t .words) words g h → StaysTimely (t .words) words → Tells onAdvance g h a → Step t s onAdvance (after a values words seats)
   nudge-step values words seats h a b n ev ew hd k lk tk told =
       let us = u .head .used in
       record {
@@ -123,9 +123,9 @@ module _ (t : Tables) (s : ℕ) (size : length (t .seats) ≡ seatsLength) (smal
   still-checking h n from e late = still h n (from ∙ sym (from-zero g (omega arith))) (to-late h late ∙ nudged-writes n ∙ sym (to-late g (omega arith)))
 
   -- by words whose locks are the same
-  calm : (words h : List ℕ) → ((x : ℕ) → x < length (t .words) → lockBit words x ≡ lockBit (t .words) x) → ((x : ℕ) → locks h x ≡ locks g x) →
+  follows-same : (words h : List ℕ) → ((x : ℕ) → x < length (t .words) → lockBit words x ≡ lockBit (t .words) x) → ((x : ℕ) → locks h x ≡ locks g x) →
       Follows (t .words) words g h
-  calm words h eb same x l le = let a = eb x l in let b : one (locks h x) ≡ one (locks g x) = ap one (same x) in omega arith
+  follows-same words h eb same x l le = let a = eb x l in let b : one (locks h x) ≡ one (locks g x) = ap one (same x) in omega arith
 
   not-four : (h : List ℕ) → phase g ≢ 4 → phase h ≢ 4 → eqb (phase h) 4 ≡ eqb (phase g) 4
   not-four h a b = ne-eqb _ _ b ∙ sym (ne-eqb _ _ a)
@@ -154,8 +154,8 @@ module _ (t : Tables) (s : ℕ) (size : length (t .seats) ≡ seatsLength) (smal
       let lh = from-zero h (omega arith) in
       let th = to-early h (omega arith) in
       let ent : (i : ℕ) → writeItem h i ≡ writeItem g i = (λ i. nudged-at n (writeItemAt i) (omega arith)) in
-      let pg = passes-early g p in
-      let ph = passes-early h (omega arith) in
+      let pg = steps-early g p in
+      let ph = steps-early h (omega arith) in
       let now = withLock-is true word in
       let taken : locks h x ≡ true =
       named-yes (writeItem h) (lockFrom h) (lockTo h) x (position g) (record { from = omega arith; below = omega arith; named = ent (position g) ∙ sym ex }) in
@@ -181,7 +181,7 @@ module _ (t : Tables) (s : ℕ) (size : length (t .seats) ≡ seatsLength) (smal
       (λ d. let b2 : one (locks h z) ≡ one (locks g z) = ap one (others z d) in omega arith))
       (λ z l le. set-ind (λ v. readTime v ≤ top) (t .words) x (withLock true word) z inside
       (λ e. rw (now .is-read, ew, e) le) (λ d. le))
-      (told-more (Locked x) _ _ (time g) _ n (says-locked (omega arith) refl) (omega arith) (not-four h (omega arith) (omega arith)) more refl
+      (tells-more (Locked x) _ _ (time g) _ n (says-locked (omega arith) refl) (omega arith) (not-four h (omega arith) (omega arith)) more refl
       (none-left h (omega arith) (omega arith)) refl)
 
   lock-ok : phase g ≤ 2 → position g < writes g → Step t s onAdvance (lockStep t s)
@@ -200,16 +200,16 @@ module _ (t : Tables) (s : ℕ) (size : length (t .seats) ≡ seatsLength) (smal
       let m = nudged-head n in
       let ho = u .head .owner-in in
       let hu = u .head .used in
-      let pg = passes-early g p in
-      let ph = passes-three h (n .is-phase) in
+      let pg = steps-early g p in
+      let ph = steps-three h (n .is-phase) in
       let from = from-zero h (omega arith) ∙ sym (from-zero g (omega arith)) in
       let same = still h n from (to-late h (omega arith) ∙ nudged-writes n ∙ sym e ∙ sym (to-early g p)) in
       nudge-step (t .values) (t .words) (put (moved (t .seats) s 3 0) s timeAt tc) h (Timed tc) (then-put timeAt tc (omega arith) (becomes-moved (t .seats) s 3 0)) n refl refl
       (omega arith)
       (λ q. kept)
-      (calm (t .words) h (λ x l. refl) same)
+      (follows-same (t .words) h (λ x l. refl) same)
       (λ x l le. le)
-      (told-more (Timed tc) _ _ tc _ n (says-timed (omega arith) refl) (omega arith) (not-four h (omega arith) (omega arith)) same refl
+      (tells-more (Timed tc) _ _ tc _ n (says-timed (omega arith) refl) (omega arith) (not-four h (omega arith) (omega arith)) same refl
       (none-left h (omega arith) (omega arith)) refl)
 
   time-ok : phase g ≤ 2 → writes g ≤ position g → Step t s onAdvance (timeStep t s)
@@ -232,15 +232,15 @@ module _ (t : Tables) (s : ℕ) (size : length (t .seats) ≡ seatsLength) (smal
       let m = nudged-head n in
       let ho = u .head .owner-in in
       let ht = u .head .timely in
-      let pg = passes-three g p in
-      let ph = passes-three h (omega arith) in
+      let pg = steps-three g p in
+      let ph = steps-three h (omega arith) in
       let same = still-checking h n (from-zero h (omega arith)) p (omega arith) in
       nudge-step (t .values) words (put (t .seats) s positionAt q) h (Checked (checkItem g)) (becomes-put (t .seats) s positionAt q (omega arith)) n refl ew
       (omega arith)
       (u .not-below)
-      (calm words h eb same)
+      (follows-same words h eb same)
       et
-      (told-more (Checked (checkItem g)) _ _ (time g) _ n (says-checked (position g) b (omega arith) refl) (omega arith) (not-four h (omega arith) (omega arith)) same refl
+      (tells-more (Checked (checkItem g)) _ _ (time g) _ n (says-checked (position g) b (omega arith) refl) (omega arith) (not-four h (omega arith) (omega arith)) same refl
       (none-left h (omega arith) (omega arith)) refl)
 
   ruled-ok : phase g ≡ 3 → position g < reads g → (v : Verdict) → judged (t .words) g ≡ v → Step t s onAdvance (ruled t s v)
@@ -269,16 +269,16 @@ module _ (t : Tables) (s : ℕ) (size : length (t .seats) ≡ seatsLength) (smal
       let ho = u .head .owner-in in
       let hc = u .head .checking p in
       let ht = u .head .timely in
-      let pg = passes-three g p in
-      let ph = passes-four h (n .is-phase) in
+      let pg = steps-three g p in
+      let ph = steps-four h (n .is-phase) in
       let same = still-checking h n (from-four h (n .is-phase) ∙ n .is-position) p (omega arith) in
       let all-left : writes h - position h ≡ length (writeEntries g) = (let e = length-seg (writeAt g) (writes g) 0 in omega arith) in
       nudge-step (t .values) (t .words) (moved (t .seats) s 4 0) h (Sealed (time g)) (becomes-moved (t .seats) s 4 0) n refl refl
       (omega arith)
       (λ q. u .not-below (omega arith))
-      (calm (t .words) h (λ x l. refl) same)
+      (follows-same (t .words) h (λ x l. refl) same)
       (λ x l le. le)
-      (told-more (Sealed (time g)) true _ (time g) _ n (says-sealed (omega arith) refl) (omega arith) (eq-eqb (phase h) 4 (n .is-phase)) same refl
+      (tells-more (Sealed (time g)) true _ (time g) _ n (says-sealed (omega arith) refl) (omega arith) (eq-eqb (phase h) 4 (n .is-phase)) same refl
       (left-four h (n .is-phase) ∙ all-left) refl)
 
   -- PHASE 4
@@ -294,8 +294,8 @@ module _ (t : Tables) (s : ℕ) (size : length (t .seats) ≡ seatsLength) (smal
       let m = nudged-head n in
       let ho = u .head .owner-in in
       let ht = u .head .timely in
-      let pg = passes-four g p in
-      let ph = passes-four h (omega arith) in
+      let pg = steps-four g p in
+      let ph = steps-four h (omega arith) in
       let inside : x < length (t .words) = u .entries .write-in (position g) b in
       let lg = from-four g p in
       let tg = to-late g (omega arith) in
@@ -331,7 +331,7 @@ module _ (t : Tables) (s : ℕ) (size : length (t .seats) ≡ seatsLength) (smal
       omega arith)
       (λ d. let b2 : one (locks h z) ≡ one (locks g z) = ap one (others z d) in omega arith))
       (λ z l le. set-ind (λ v. readTime v ≤ top) (t .words) x f z inside (λ e. rw (now .is-read) ht) (λ d. le))
-      (told-more (Stored x) _ _ (time g) _ n (says-stored (position g) b (omega arith) refl) (omega arith) (ap (λ (k : ℕ). eqb k 4) (n .is-phase)) less refl
+      (tells-more (Stored x) _ _ (time g) _ n (says-stored (position g) b (omega arith) refl) (omega arith) (ap (λ (k : ℕ). eqb k 4) (n .is-phase)) less refl
       (left-four h (omega arith) ∙ one-less) refl)
 
   done-ok : phase g ≡ 4 → writes g ≤ position g → Step t s onAdvance (doneStep t s)

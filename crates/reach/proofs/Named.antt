@@ -12,7 +12,7 @@ use Rattle.rules.specs.Layout.{writeItem}
 use Rattle.rows.specs.Search.{first-hit}
 use Rattle.reach.specs.Invariants.{lockFrom, lockTo, Names}
 use Rattle.reach.proofs.Tests.{by, both, same-test, some-any}
-use Rattle.reach.proofs.Order.{named, locks}
+use Rattle.reach.proofs.InOrder.{named, locks}
 
 pub named-yes : (e : ℕ → ℕ) (lo hi item i : ℕ) → Names e lo hi item i → named e lo hi item ≡ true
 unfolding named

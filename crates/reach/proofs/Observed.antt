@@ -13,10 +13,10 @@ use Rattle.observer.proofs.Segments.{length-seg}
 use Rattle.observer.proofs.Entries.{readAt, writeAt}
 use Rattle.reach.specs.Reached.{Reached, begun, seen}
 use Rattle.reach.specs.Counts.{writeCount, readCount}
-use Rattle.reach.proofs.Order.{InOrder}
+use Rattle.reach.proofs.InOrder.{InOrder}
 use Rattle.reach.proofs.Steps.{seenOf}
 use Rattle.reach.proofs.Freed.{seen-free}
-use Rattle.reach.proofs.Effects.{Effect, refuses, changes, begins, effect, after-effect}
+use Rattle.reach.proofs.Effects.{Effect, refuses, changes, starts, effect-of, after-effect}
 use Rattle.reach.proofs.Reached.{begun-in-order, begun-free, begun-plan}
 
 record Sees (t : Tables) (b : Observer) : Type 0 where
@@ -33,14 +33,14 @@ sees-effect t b c o z (changes s low f at h ch bk told) =
           (rw (ch .becomes .own, ← z .rows s) (told .shown)) (λ j d. rw (ch .becomes .others j d) (z .rows j)) j);
       plan = λ i l. rw (at .plan b) (ch .becomes .plan i l ∙ z .plan i l);
     }
-sees-effect t b c o z (begins start plan q e m k zero p) =
+sees-effect t b c o z (starts start plan q e m k zero p) =
     rw (q, begins-anew b start plan (o .answer) (ap kind e)) (record { rows = λ s. seen-free (row (o .tables .seats) s) (zero s); plan = p })
 
 sees-run : (t : Tables) (b : Observer) → InOrder t → Sees t b → (cs : List Call) → Sees (run t cs) (observed b (history t cs))
 unfolding run history observed
 sees-run t b k z [] = z
 sees-run t b k z (c ∷ cs) =
-    sees-run (step t c .tables) (observe b c (step t c .answer)) (after-effect t c (step t c) k (effect t k c)) (sees-effect t b c (step t c) z (effect t k c)) cs
+    sees-run (step t c .tables) (observe b c (step t c .answer)) (after-effect t c (step t c) k (effect-of t k c)) (sees-effect t b c (step t c) z (effect-of t k c)) cs
 
 module _ (t : Tables) (z : Reached t) where
   sees : Sees t (seen z)
@@ -58,8 +58,8 @@ module _ (t : Tables) (z : Reached t) where
   seat-is s = sym (sees .rows s)
 
   -- the plan is that of the last Setup that answered ready
-  pub plan-kept : (i : ℕ) → i < planWidth → getD (t .seats) i 0 ≡ getD (seen z .plan) i 0
-  plan-kept = sees .plan
+  pub plan-stays : (i : ℕ) → i < planWidth → getD (t .seats) i 0 ≡ getD (seen z .plan) i 0
+  plan-stays = sees .plan
 
   -- as many records written, and read, as the row has entries
   pub writes-are : (s : ℕ) → writes (row (t .seats) s) ≡ writeCount (seen z .seats s)

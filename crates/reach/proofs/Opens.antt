@@ -27,11 +27,11 @@ use Rattle.observer.proofs.Entries.{readAt, writeAt}
 use Rattle.reach.specs.Life.{script}
 use Rattle.reach.proofs.Tests.{by, all-none, not-third}
 use Rattle.reach.proofs.Count.{one}
-use Rattle.reach.proofs.Order.{locks, Books, InOrder}
+use Rattle.reach.proofs.InOrder.{locks, WithinPlan, InOrder}
 use Rattle.reach.proofs.Named.{locks-none}
-use Rattle.reach.proofs.Rows.{row-used, to-early, passes-early}
-use Rattle.reach.proofs.Books.{books-open}
-use Rattle.reach.proofs.Steps.{seen-as, left-none, Change, Told}
+use Rattle.reach.proofs.Rows.{row-used, to-early, steps-early}
+use Rattle.reach.proofs.WithinPlan.{within-open}
+use Rattle.reach.proofs.Steps.{seen-as, left-none, Change, Tells}
 use Rattle.reach.proofs.Freed.{locks-free}
 
 -- tables in order are sized and sound
@@ -54,21 +54,21 @@ pub not-unsound : (t : Tables) → InOrder t → unsound (t .seats) ≡ false
 unfolding unsound badRow overLimit
 not-unsound t k =
     all-none _ (
-      k .books .plan,
+      k .within .plan,
       (
         none-any _ seatCount (λ s h. by (eqb (phase (row (t .seats) s)) 0)
             (λ e. let z = eqb-true (phase (row (t .seats) s)) 0 e in all-none _ (le-ltb 4 (phase (row (t .seats) s)) (omega arith), (rw e refl, tt)))
             (λ e. let u = k .rows s h .in-use (eqb-false _ _ e) in
             all-none _ (le-ltb 4 (phase (row (t .seats) s)) (u .head .phase-in), (rw e (lt-leb owners (owner (row (t .seats) s)) (u .head .owner-in)), tt)))),
         (
-          none-any _ owners (λ o h. le-ltb (limit (t .seats) o) (held (t .seats) o) (k .books .limits o h)),
-          (le-ltb seatCount (claims (t .seats)) (k .books .room), tt),
+          none-any _ owners (λ o h. le-ltb (limit (t .seats) o) (held (t .seats) o) (k .within .limits o h)),
+          (le-ltb seatCount (claims (t .seats)) (k .within .claims-fit), tt),
         ),
       ),
     )
 
 -- Open that is not refused
-pub record Room (t : Tables) (o : ℕ) : Type 0 where
+pub record MayOpen (t : Tables) (o : ℕ) : Type 0 where
   pub owner-in : o < owners
   pub below : held (t .seats) o < limit (t .seats) o
   pub fair : share (t .seats) o ≤ held (t .seats) o → claims (t .seats) ≢ seatCount
@@ -86,9 +86,9 @@ module _ (t : Tables) (k : InOrder t) (o : ℕ) where
   unfolding openRefusal firstOf
   open-no-owner h = rw (not-unsized t k, le-leb owners o h) refl
 
-  pub room : openRefusal t o ≡ 0 → Room t o
+  pub may-open : openRefusal t o ≡ 0 → MayOpen t o
   unfolding openRefusal crowded
-  room e =
+  may-open e =
       let r = first-none 0 _ e in
       record {
         owner-in = leb-false owners o (r .1 .0);
@@ -142,9 +142,9 @@ module _ (t : Tables) (k : InOrder t) (o : ℕ) where
           timely = λ x a e. e;
         }
 
-    pub open-told : Told (λ x a. givenTo o) (row (t .seats) s) (openedRow o) (Seat s)
+    pub open-tells : Tells (λ x a. givenTo o) (row (t .seats) s) (openedRow o) (Seat s)
     unfolding seg
-    open-told =
+    open-tells =
         let z = opened-row o in
         let d0 : phase h ≡ 1 = z .is-phase in
         let none : phase h ≢ 4 = omega arith in
@@ -154,7 +154,7 @@ module _ (t : Tables) (k : InOrder t) (o : ℕ) where
               (record {
                 is-open = ap not (ne-eqb (phase h) 0 (omega arith));
                 is-holder = z .is-owner;
-                is-advances = ap (λ (n : ℕ). take n (script (writes h) (reads h))) (passes-early h (omega arith) ∙ z .rest positionAt (omega arith) (omega arith));
+                is-advances = ap (λ (n : ℕ). take n (script (writes h) (reads h))) (steps-early h (omega arith) ∙ z .rest positionAt (omega arith) (omega arith));
                 is-sealed = ne-eqb (phase h) 4 none;
                 shows = record {
                   is-reads = ap (seg (readAt h) 0) (z .rest readsAt (omega arith) (omega arith));
@@ -168,8 +168,8 @@ module _ (t : Tables) (k : InOrder t) (o : ℕ) where
           plain = λ e. omega arith;
         }
 
-    pub open-books : Room t o → Books (opened (t .seats) s o)
-    open-books r =
+    pub open-within : MayOpen t o → WithinPlan (opened (t .seats) s o)
+    open-within r =
         let z = opened-row o in
         let d0 : phase h ≡ 1 = z .is-phase in
-        books-open (becomes-opened (t .seats) s o (length-row (t .seats) s (k .sized .rows) small)) small o (r .owner-in) free (omega arith) (z .is-owner) (r .below) (r .fair) (k .books)
+        within-open (becomes-opened (t .seats) s o (length-row (t .seats) s (k .sized .rows) small)) small o (r .owner-in) free (omega arith) (z .is-owner) (r .below) (r .fair) (k .within)

@@ -28,13 +28,13 @@ use Rattle.reach.specs.Life.{advanced}
 use Rattle.reach.specs.Refusals.{seatDue}
 use Rattle.reach.specs.Progress.{Progress, ProgressOfEach, isAdvance, advancesOf, ending, EndsExactly}
 use Rattle.reach.proofs.Tests.{by, both, all-none}
-use Rattle.reach.proofs.Order.{InOrder}
-use Rattle.reach.proofs.Rows.{passes-four}
-use Rattle.reach.proofs.Script.{word-given, word-sealing}
+use Rattle.reach.proofs.InOrder.{InOrder}
+use Rattle.reach.proofs.Rows.{steps-four}
+use Rattle.reach.proofs.Script.{kind-given, kind-sealing}
 use Rattle.reach.proofs.Opens.{free-seat}
 use Rattle.reach.proofs.Reached.{records-told, reached-in-order}
 use Rattle.reach.proofs.Observed.{seat-is, writes-are, reads-are}
-use Rattle.reach.proofs.Life.{advance-word, made-is, sealed-four, says}
+use Rattle.reach.proofs.Life.{advance-kind, advances-are, sealed-four, says}
 use Rattle.reach.proofs.Refusals.{refusal-is, late-leave, never-late}
 
 -- an Advance that is not refused, and one of a sealed seat
@@ -110,9 +110,9 @@ module _ (t : Tables) (z : Reached t) (s : ℕ) (low : s < seatCount) where
       (λ e. stores _ (ltb-true _ _ e) refl)
       (λ e. let l = ltb-false (position g) (writes g) e in ends _ (omega arith) refl))
 
-  goes-word : {a : Answer} → Goes a → (kind a ≡ stored) ⊎ (kind a ≡ done)
-  goes-word (stores x l e) = inl (ap kind e)
-  goes-word (ends x l e) = inr (ap kind e)
+  goes-kind : {a : Answer} → Goes a → (kind a ≡ stored) ⊎ (kind a ≡ done)
+  goes-kind (stores x l e) = inl (ap kind e)
+  goes-kind (ends x l e) = inr (ap kind e)
 
   pub progress : Progress t s (seen z .seats s)
   unfolding step abandon letGo
@@ -121,8 +121,8 @@ module _ (t : Tables) (z : Reached t) (s : ℕ) (low : s < seatCount) where
       record {
         never-refused = λ h.
             subst (λ (x : Outcome). kind (x .answer) ≢ refused) (sym (fine-step t o s (advance-fine h)))
-            (word-given (advance-word t s (k .rows s low .in-use (open-used h))));
-        goes-on = λ h. goes-word (goes h);
+            (kind-given (advance-kind t s (k .rows s low .in-use (open-used h))));
+        goes-on = λ h. goes-kind (goes h);
         may-leave = λ h n. rw (abandon-fine h n) refl;
       }
 
@@ -232,24 +232,24 @@ its-advance o s (Advance p j) e = let q = both (eqb p o) (eqb j s) e in rw (eqb-
 its-advance o s (Abandon p j) e = absurd (true≢false (sym e))
 
 -- EXACTLY THE STORES THAT ARE LEFT, AND ONE MORE. The seat is sealed by o, with n stores to go
-record Left (x : Seen) (o n : ℕ) : Type 0 where
+record StoresToGo (x : Seen) (o n : ℕ) : Type 0 where
   is-sealed : x .isSealed ≡ true
   by-holder : x .holder ≡ o
   to-go : advanceCount x + n + 1 ≡ 2 * writeCount x + readCount x + 3
 
-abbrev Ends : ℕ → List ℕ → Type 0
-Ends n words = take (suc n) words ≡ take (length words) (ending n)
+abbrev EndsIn : ℕ → List ℕ → Type 0
+EndsIn n words = take (suc n) words ≡ take (length words) (ending n)
 
 -- its holder's Advance, and what comes after it
-advance-run : (t : Tables) (z : Reached t) (o s n : ℕ) → s < seatCount → Left (seen z .seats s) o n → (rest : List ℕ) →
-    ((m : ℕ) → Left (seen (more z (Advance o s)) .seats s) o m → Ends m rest) → Ends n (kind (advanced t o s) ∷ rest)
+advance-run : (t : Tables) (z : Reached t) (o s n : ℕ) → s < seatCount → StoresToGo (seen z .seats s) o n → (rest : List ℕ) →
+    ((m : ℕ) → StoresToGo (seen (more z (Advance o s)) .seats s) o m → EndsIn m rest) → EndsIn n (kind (advanced t o s) ∷ rest)
 unfolding onAdvance observe
 advance-run t z o s n low k rest next = go n (goes t z s low (k .is-sealed)) counted
   where
     counted : writes (row (t .seats) s) ≡ position (row (t .seats) s) + n
     counted =
-        let a = passes-four (row (t .seats) s) (sealed-four t z s low (k .is-sealed)) in
-        let m = made-is t z s low in
+        let a = steps-four (row (t .seats) s) (sealed-four t z s low (k .is-sealed)) in
+        let m = advances-are t z s low in
         let x = writes-are t z s in
         let y = reads-are t z s in
         let q = k .to-go in
@@ -262,7 +262,7 @@ advance-run t z o s n low k rest next = go n (goes t z s low (k .is-sealed)) cou
     after x e = shown-more z o s (Stored x) e
 
     go : (n : ℕ) → Goes t z s low (advanced t (seen z .seats s .holder) s) → writes (row (t .seats) s) ≡ position (row (t .seats) s) + n →
-        Ends n (kind (advanced t o s) ∷ rest)
+        EndsIn n (kind (advanced t o s) ∷ rest)
     go zero (stores x l e) c = absurd (omega arith)
     go (suc m) (ends x l e) c = absurd (omega arith)
     go zero (ends x l e) c = rw (told _ e) (ap (λ (l : List ℕ). done ∷ l) (sym (take-nil (length rest))))
@@ -270,15 +270,15 @@ advance-run t z o s n low k rest next = go n (goes t z s low (k .is-sealed)) cou
         let a = told _ e in
         rw a (ap (λ (l : List ℕ). stored ∷ l) (next m (rw (after x a) (one-less m c))))
       where
-        one-less : (m : ℕ) → writes (row (t .seats) s) ≡ position (row (t .seats) s) + suc m → Left (onAdvance (seen z .seats s) (Stored x)) o m
+        one-less : (m : ℕ) → writes (row (t .seats) s) ≡ position (row (t .seats) s) + suc m → StoresToGo (onAdvance (seen z .seats s) (Stored x)) o m
         one-less m c =
             let n-is : n ≡ suc m = (let d = counted in omega arith) in
             let q = k .to-go in
             let one = length-append (seen z .seats s .advances) (stored ∷ []) in
             record { is-sealed = k .is-sealed; by-holder = k .by-holder; to-go = omega arith }
 
-sealed-run : (t : Tables) (z : Reached t) (o s n : ℕ) → s < seatCount → Left (seen z .seats s) o n → (cs : List Call) →
-    NoSetup (history t cs) → Ends n (advancesOf o s (history t cs))
+sealed-run : (t : Tables) (z : Reached t) (o s n : ℕ) → s < seatCount → StoresToGo (seen z .seats s) o n → (cs : List Call) →
+    NoSetup (history t cs) → EndsIn n (advancesOf o s (history t cs))
 unfolding history advancesOf
 sealed-run t z o s n low k [] q = refl
 sealed-run t z o s n low k (c ∷ cs) q =
@@ -320,8 +320,8 @@ ends-exactly t z o s e cs q =
     let x : Seen = seen z .seats s in
     let a : advanced t o s ≡ Sealed (number (advanced t o s)) = sealed-is (advanced t o s) e in
     let now = shown-more z o s (Sealed (number (advanced t o s))) a in
-    let n = word-sealing (says t z s low o (λ y. omega arith)) e in
+    let n = kind-sealing (says t z s low o (λ y. omega arith)) e in
     let one = length-append (x .advances) (sealed ∷ []) in
-    let l : Left (seen (more z (Advance o s)) .seats s) o (writeCount x) =
+    let l : StoresToGo (seen (more z (Advance o s)) .seats s) o (writeCount x) =
     rw now (record { is-sealed = refl; by-holder = holder-is t z s low ∙ f .own; to-go = omega arith }) in
     rw (ending-length (writeCount x)) (sealed-run (step t (Advance o s) .tables) (more z (Advance o s)) o s (writeCount x) low l cs q)

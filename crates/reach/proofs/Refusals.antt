@@ -29,16 +29,16 @@ use Rattle.reach.specs.Counts.{advanceCount, isOf, seatsOf}
 use Rattle.reach.specs.Refusals.{orElse, claimed, isHeld, seatDue, readDue, writeDue, openDue, due, EveryRefusal}
 use Rattle.reach.proofs.Tests.{by, same-test, some-any}
 use Rattle.reach.proofs.Count.{one, sum-same, count-has, count-some}
-use Rattle.reach.proofs.Order.{locks, passes, InOrder}
-use Rattle.reach.proofs.Script.{word-given}
-use Rattle.reach.proofs.Rows.{undamaged, passes-early, passes-three, passes-four}
+use Rattle.reach.proofs.InOrder.{locks, stepsTaken, InOrder}
+use Rattle.reach.proofs.Script.{kind-given}
+use Rattle.reach.proofs.Rows.{undamaged, steps-early, steps-three, steps-four}
 use Rattle.reach.proofs.Steps.{seenOf, row-shows}
 use Rattle.reach.proofs.Opens.{not-unsized, open-refusal, open-no-owner}
 use Rattle.reach.proofs.Effects.{seat-in, used-of}
 use Rattle.reach.proofs.Reached.{records-told, reached-in-order}
-use Rattle.reach.proofs.Observed.{seat-is, plan-kept, writes-are, reads-are}
+use Rattle.reach.proofs.Observed.{seat-is, plan-stays, writes-are, reads-are}
 use Rattle.reach.proofs.FairShare.{held-seen}
-use Rattle.reach.proofs.Life.{advance-word, made-is, made-past}
+use Rattle.reach.proofs.Life.{advance-kind, advances-are, advanced-past}
 
 -- an answer is a refusal exactly where n is not 0, and then carries n
 pub record Exactly (a : Answer) (n : ℕ) : Type 0 where
@@ -111,21 +111,21 @@ module _ (t : Tables) (z : Reached t) where
     phase-in : phase (row (t .seats) s) ≤ 4
     phase-in = by (eqb (phase g) 0) (λ e. let q = eqb-true (phase g) 0 e in omega arith) (λ e. k .rows s low .in-use (eqb-false _ _ e) .head .phase-in)
 
-    passes-past : 1 < phase (row (t .seats) s) → 1 ≤ passes (row (t .seats) s)
-    passes-past h =
+    steps-past : 1 < phase (row (t .seats) s) → 1 ≤ stepsTaken (row (t .seats) s)
+    steps-past h =
         let p = phase-in in
         let hd = k .rows s low .in-use (omega arith) .head in
         by (eqb (phase g) 2)
-        (λ e. let q = eqb-true (phase g) 2 e in let a = passes-early g (omega arith) in let f = hd .locking q in omega arith)
+        (λ e. let q = eqb-true (phase g) 2 e in let a = steps-early g (omega arith) in let f = hd .locking q in omega arith)
         (λ e. let d : phase g ≢ 2 = eqb-false _ _ e in by (eqb (phase g) 3)
-        (λ y. let q = eqb-true (phase g) 3 y in let a = passes-three g q in omega arith)
-        (λ y. let n : phase g ≢ 3 = eqb-false _ _ y in let a = passes-four g (omega arith) in omega arith))
+        (λ y. let q = eqb-true (phase g) 3 y in let a = steps-three g q in omega arith)
+        (λ y. let n : phase g ≢ 3 = eqb-false _ _ y in let a = steps-four g (omega arith) in omega arith))
 
     late-work : ltb 1 (phase (row (t .seats) s)) ≡ leb 1 (advanceCount (seen z .seats s))
     late-work =
         same-test _ _
-        (λ e. let a = passes-past (ltb-true 1 (phase g) e) in let m = made-is t z s low in le-leb 1 (advanceCount (seen z .seats s)) (omega arith))
-        (λ e. lt-ltb 1 (phase g) (made-past t z s low (leb-true 1 (advanceCount (seen z .seats s)) e)))
+        (λ e. let a = steps-past (ltb-true 1 (phase g) e) in let m = advances-are t z s low in le-leb 1 (advanceCount (seen z .seats s)) (omega arith))
+        (λ e. lt-ltb 1 (phase g) (advanced-past t z s low (leb-true 1 (advanceCount (seen z .seats s)) e)))
 
     pub late-leave : ltb 3 (phase (row (t .seats) s)) ≡ seen z .seats s .isSealed
     late-leave =
@@ -167,7 +167,7 @@ module _ (t : Tables) (z : Reached t) where
   unfolding claims claim
   claims-are =
       sum-same (λ o. max (seatsOf o (seen z)) (share (seen z .plan) o)) (claim (t .seats)) owners
-      (λ o l. let a = held-seen t z o in let b : share (t .seats) o ≡ share (seen z .plan) o = plan-kept t z (shareAt o) (omega arith) in omega arith)
+      (λ o l. let a = held-seen t z o in let b : share (t .seats) o ≡ share (seen z .plan) o = plan-stays t z (shareAt o) (omega arith) in omega arith)
 
   open-is : (o : ℕ) → openRefusal t o ≡ openDue (records z) (seen z) o
   unfolding openDue crowded
@@ -175,7 +175,7 @@ module _ (t : Tables) (z : Reached t) where
       by (leb owners o)
       (λ e. open-no-owner t k o (leb-true owners o e) ∙ rw e refl)
       (λ e. let low = leb-false owners o e in
-      rw (open-refusal t k o low, e, held-seen t z o, claims-are, plan-kept t z (shareAt o) (omega arith), plan-kept t z (limitAt o) (omega arith)) refl)
+      rw (open-refusal t k o low, e, held-seen t z o, claims-are, plan-stays t z (shareAt o) (omega arith), plan-stays t z (limitAt o) (omega arith)) refl)
 
   -- SETUP, over tables whose lengths a Setup has accepted
   setup-is : (start : ℕ) (plan : List ℕ) → setupRefusal t start plan ≡ due (records z) (seen z) (Setup start plan)
@@ -205,7 +205,7 @@ module _ (t : Tables) (z : Reached t) where
   exact (Advance o s) =
       of-due (advance-is o s)
       (guarded-only (refusal t o s 0 4) t (advanceIn t s)
-      (λ e. word-given (advance-word t s (used-of t k o s 0 4 (fine t o s 0 4 e)))))
+      (λ e. kind-given (advance-kind t s (used-of t k o s 0 4 (fine t o s 0 4 e)))))
   exact (Abandon o s) =
       of-due (abandon-is o s)
       (guarded-only (refusal t o s 0 3) t (letGo t s (Dropped s)) (λ e q. omega arith))

@@ -16,7 +16,7 @@ use Rattle.rows.specs.Changed.{Nudged}
 use Rattle.observer.proofs.Entries.{nudged-at, nudged-reads, nudged-writes}
 use Rattle.reach.specs.Invariants.{lockFrom, lockTo}
 use Rattle.reach.proofs.Tests.{by, only-where, all-none}
-use Rattle.reach.proofs.Order.{Zero, Head, Entries, Used, Row, passes}
+use Rattle.reach.proofs.InOrder.{Zero, Head, Entries, Used, Row, stepsTaken}
 
 -- A NUDGED ROW keeps its entries
 module _ {g h : List ℕ} {ph p t : ℕ} (z : Nudged g h ph p t) where
@@ -149,17 +149,17 @@ module _ (g : List ℕ) where
       (λ e. let q = eqb-true (phase g) 3 e in rw e (to-late (omega arith)))
       (λ e. let q : phase g ≢ 3 = eqb-false _ _ e in rw e (to-early (omega arith)))
 
-  pub passes-early : phase g ≤ 2 → passes g ≡ position g
-  unfolding passes
-  passes-early h = rw (le-leb (phase g) 2 h)
+  pub steps-early : phase g ≤ 2 → stepsTaken g ≡ position g
+  unfolding stepsTaken
+  steps-early h = rw (le-leb (phase g) 2 h)
 
-  pub passes-three : phase g ≡ 3 → passes g ≡ writes g + 1 + position g
-  unfolding passes
-  passes-three h = rw (lt-leb (phase g) 2 (omega arith), eq-eqb _ _ h)
+  pub steps-three : phase g ≡ 3 → stepsTaken g ≡ writes g + 1 + position g
+  unfolding stepsTaken
+  steps-three h = rw (lt-leb (phase g) 2 (omega arith), eq-eqb _ _ h)
 
-  pub passes-four : phase g ≡ 4 → passes g ≡ writes g + reads g + 2 + position g
-  unfolding passes
-  passes-four h = rw (lt-leb (phase g) 2 (omega arith), ne-eqb (phase g) 3 (omega arith))
+  pub steps-four : phase g ≡ 4 → stepsTaken g ≡ writes g + reads g + 2 + position g
+  unfolding stepsTaken
+  steps-four h = rw (lt-leb (phase g) 2 (omega arith), ne-eqb (phase g) 3 (omega arith))
 
   pub early-fits : Head g → phase g ≤ 2 → position g ≤ writes g
   early-fits h p =

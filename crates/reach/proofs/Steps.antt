@@ -21,8 +21,8 @@ use Rattle.observer.proofs.Shows.{Shows}
 use Rattle.reach.specs.Life.{script}
 use Rattle.reach.proofs.Tests.{by}
 use Rattle.reach.proofs.Count.{one, count-change, count-has}
-use Rattle.reach.proofs.Order.{Row, locks, passes, Books, lockBit, InOrder}
-use Rattle.reach.proofs.Books.{heldBy}
+use Rattle.reach.proofs.InOrder.{Row, locks, stepsTaken, WithinPlan, lockBit, InOrder}
+use Rattle.reach.proofs.WithinPlan.{heldBy}
 
 -- a record's lock goes with the hold on it of the row that was g and is h
 abbrev pub Follows : (words words′ g h : List ℕ) → Type 0
@@ -48,7 +48,7 @@ seenOf g =
     record {
       isOpen = not (eqb (phase g) 0);
       holder = owner g;
-      advances = take (passes g) (script (writes g) (reads g));
+      advances = take (stepsTaken g) (script (writes g) (reads g));
       isSealed = eqb (phase g) 4;
       reads = firstReads g;
       writes = writeEntries g;
@@ -64,7 +64,7 @@ row-shows g = record { is-reads = refl; is-writes = refl }
 pub record SeenAs (g : List ℕ) (x : Seen) : Type 0 where
   pub is-open : not (eqb (phase g) 0) ≡ x .isOpen
   pub is-holder : owner g ≡ x .holder
-  pub is-advances : take (passes g) (script (writes g) (reads g)) ≡ x .advances
+  pub is-advances : take (stepsTaken g) (script (writes g) (reads g)) ≡ x .advances
   pub is-sealed : eqb (phase g) 4 ≡ x .isSealed
   pub shows : Shows g x
   pub is-locked : (item : ℕ) → locks g item ≡ x .locked item
@@ -93,7 +93,7 @@ pub left-none : (g : List ℕ) → phase g ≢ 4 → cond (eqb (phase g) 4) (wri
 left-none g d = rw (ne-eqb (phase g) 4 d) refl
 
 -- what an answer says of the row before and after; f is what the call's answer shows of the seat
-pub record Told (f : Seen → Answer → Seen) (g h : List ℕ) (a : Answer) : Type 0 where
+pub record Tells (f : Seen → Answer → Seen) (g h : List ℕ) (a : Answer) : Type 0 where
   pub shown : seenOf h ≡ f (seenOf g) a
   pub fair : kind a ≡ refused → number a ≢ 3
   pub plain : kind a ≢ ready
@@ -102,9 +102,9 @@ pub record Step (t : Tables) (s : ℕ) (f : Seen → Answer → Seen) (o : Outco
   pub next : List ℕ
   pub change : Change t (o .tables) s next
   pub mine : (w : ℕ) → one (heldBy next w) ≤ one (heldBy (row (t .seats) s) w)
-  pub told : Told f (row (t .seats) s) next (o .answer)
+  pub told : Tells f (row (t .seats) s) next (o .answer)
 
-pub state-after : (t t′ : Tables) (s : ℕ) (h : List ℕ) → s < seatCount → Change t t′ s h → Books (t′ .seats) → InOrder t → InOrder t′
+pub state-after : (t t′ : Tables) (s : ℕ) (h : List ℕ) → s < seatCount → Change t t′ s h → WithinPlan (t′ .seats) → InOrder t → InOrder t′
 state-after t t′ s h low c b k =
     let el = c .words in
     let ev = c .values in
@@ -115,7 +115,7 @@ state-after t t′ s h low c b k =
           (by (eqb r s)
           (λ e. rw (eqb-true r s e, c .becomes .own) (c .in-order))
           (λ e. rw (c .becomes .others r (eqb-false r s e)) (k .rows r l)));
-      books = b;
+      within = b;
       held-once = λ item q.
           let l : item < length (t .words) = omega arith in
           let a = k .held-once item l in
@@ -131,7 +131,7 @@ state-after t t′ s h low c b k =
 
 -- an answer that leaves all tables
 pub step-keep : (t : Tables) (s : ℕ) (f : Seen → Answer → Seen) (a : Answer) → Row (length (t .words)) (row (t .seats) s) →
-    Told f (row (t .seats) s) (row (t .seats) s) a → Step t s f (keep t a)
+    Tells f (row (t .seats) s) (row (t .seats) s) a → Step t s f (keep t a)
 step-keep t s f a r q =
     record {
       next = row (t .seats) s;

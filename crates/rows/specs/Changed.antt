@@ -117,7 +117,7 @@ notedRow g item value wrote upTo =
     let n : ℕ = reads g in
     set (set (set (set (set g (readItemAt n) item) (readValueAt n) value) (keptWriteAt n) wrote) (keptReadAt n) upTo) readsAt (n + 1)
 
-pub record Noted (g h : List ℕ) (item value wrote upTo : ℕ) : Type 0 where
+pub record WithRead (g h : List ℕ) (item value wrote upTo : ℕ) : Type 0 where
   pub size : length h ≡ rowWidth
   pub count : reads h ≡ reads g + 1
   pub has-item : readItem h (reads g) ≡ item
@@ -127,7 +127,7 @@ pub record Noted (g h : List ℕ) (item value wrote upTo : ℕ) : Type 0 where
   pub before : (f : ℕ) → f ≢ readsAt → f < readItemAt (reads g) → getD h f 0 ≡ getD g f 0
   pub behind : (f : ℕ) → readItemAt (reads g + 1) ≤ f → getD h f 0 ≡ getD g f 0
 
-pub noted-row : (g : List ℕ) (item value wrote upTo : ℕ) → length g ≡ rowWidth → readItemAt (reads g + 1) ≤ rowWidth → Noted g (notedRow g item value wrote upTo) item value wrote upTo
+pub noted-row : (g : List ℕ) (item value wrote upTo : ℕ) → length g ≡ rowWidth → readItemAt (reads g + 1) ≤ rowWidth → WithRead g (notedRow g item value wrote upTo) item value wrote upTo
 noted-row g item value wrote upTo size room =
     record {
       size = s5;
@@ -223,7 +223,7 @@ placedRow g i item value =
     let n : ℕ = writes g in
     set (set (set (slidRow g (writeItemAt n) writeWidth (writeItemAt n - writeItemAt i)) (writeItemAt i) item) (writeValueAt i) value) writesAt (n + 1)
 
-pub record Placed (g h : List ℕ) (i item value : ℕ) : Type 0 where
+pub record WithWrite (g h : List ℕ) (i item value : ℕ) : Type 0 where
   pub size : length h ≡ rowWidth
   pub count : writes h ≡ writes g + 1
   pub has-item : writeItem h i ≡ item
@@ -232,7 +232,7 @@ pub record Placed (g h : List ℕ) (i item value : ℕ) : Type 0 where
   pub up : (f : ℕ) → writeItemAt i ≤ f → f < writeItemAt (writes g) → getD h (f + writeWidth) 0 ≡ getD g f 0
   pub behind : (f : ℕ) → writeItemAt (writes g + 1) ≤ f → getD h f 0 ≡ getD g f 0
 
-pub placed-row : (g : List ℕ) (i item value : ℕ) → length g ≡ rowWidth → i ≤ writes g → writeItemAt (writes g + 1) ≤ rowWidth → Placed g (placedRow g i item value) i item value
+pub placed-row : (g : List ℕ) (i item value : ℕ) → length g ≡ rowWidth → i ≤ writes g → writeItemAt (writes g + 1) ≤ rowWidth → WithWrite g (placedRow g i item value) i item value
 unfolding placedRow
 placed-row g i item value size low room =
     record {

@@ -28,15 +28,15 @@ use Rattle.serial.proofs.Protocol.{Stamp, Version, Seat, State, Inv}
 use Rattle.serial.proofs.View.{view}
 
 -- a record's value and word show its version
-pub record Shown (x : Version) (v word : ℕ) : Type 0 where
+pub record WordShows (x : Version) (v word : ℕ) : Type 0 where
   pub is-value : x .value ≡ v
   pub is-wrote : x .wrote ≡ writeTime word
   pub is-upTo : x .upTo ≡ readTime word
   -- what is not locked has no holder
   pub idle : isLocked word ≡ false → x .holder ≡ none
 
-abbrev pub AllShown : (ℕ → Version) → List ℕ → List ℕ → Type 0
-AllShown c values words = (item : ℕ) → item < length words → Shown (c item) (getD values item 0) (getD words item 0)
+abbrev pub WordsShow : (ℕ → Version) → List ℕ → List ℕ → Type 0
+WordsShow c values words = (item : ℕ) → item < length words → WordShows (c item) (getD values item 0) (getD words item 0)
 
 -- what is seen of a seat is what its row holds
 pub record SeenOk (g : List ℕ) (x : Seen) : Type 0 where
@@ -57,38 +57,38 @@ seen-nudged {g} {h} n x y o a b left =
 
 pub record Agree (t : Tables) (σ : State) (b : Observer) : Type 0 where
   pub sized : Sized t
-  pub shown : AllShown (σ .version) (t .values) (t .words)
-  pub rows : (k : ℕ) → σ .seat k ≡ view (b .seats k .key) (row (t .seats) k)
-  pub seen : (k : ℕ) → phase (row (t .seats) k) ≢ 0 → SeenOk (row (t .seats) k) (b .seats k)
+  pub shown : WordsShow (σ .version) (t .values) (t .words)
+  pub rows : (s : ℕ) → σ .seat s ≡ view (b .seats s .key) (row (t .seats) s)
+  pub seen : (s : ℕ) → phase (row (t .seats) s) ≢ 0 → SeenOk (row (t .seats) s) (b .seats s)
   pub order : σ .order ≡ serial (b .sealed)
 
 -- some state of the protocol agrees
-pub record Good (opening : Values) (t : Tables) (b : Observer) : Type 0 where
+pub record Mirrored (opening : Values) (t : Tables) (b : Observer) : Type 0 where
   pub σ : State
   pub inv : Inv opening σ
   pub agree : Agree t σ b
 
 -- a seat's stamp, once it has its time
 abbrev pub stampAt : Tables → Observer → ℕ → Stamp
-stampAt t b k = record { key = b .seats k .key; time = time (row (t .seats) k) }
+stampAt t b s = record { key = b .seats s .key; time = time (row (t .seats) s) }
 
 -- WHAT IS TO BE SHOWN of a call, other than a Setup that is answered ready
-abbrev pub Ok : Values → Observer → Call → Outcome → Type 0
-Ok opening b c z = Good opening (z .tables) (observe b c (z .answer))
+abbrev pub StaysMirrored : Values → Observer → Call → Outcome → Type 0
+StaysMirrored opening b c z = Mirrored opening (z .tables) (observe b c (z .answer))
 
 -- a refusal shows nothing new
-pub refused : (opening : Values) (t : Tables) (b : Observer) → Good opening t b → (c : Call) (why : ℕ) → Ok opening b c (keep t (Refused why))
-refused opening t b g c why = rw (refusal-shows b c why) g
+pub refused : (opening : Values) (t : Tables) (b : Observer) → Mirrored opening t b → (c : Call) (why : ℕ) → StaysMirrored opening b c (keep t (Refused why))
+refused opening t b now c why = rw (refusal-shows b c why) now
 
-pub unless-ok : (opening : Values) (t : Tables) (b : Observer) → Good opening t b → (c : Call) (why : ℕ) (z : Outcome) → (why ≡ 0 → Ok opening b c z) → Ok opening b c (unless why t z)
-unless-ok opening t b g c why z h = cond-ind (Ok opening b c) (eqb why 0) (λ e. h (eqb-true why 0 e)) (λ _. refused opening t b g c why)
+pub unless-ok : (opening : Values) (t : Tables) (b : Observer) → Mirrored opening t b → (c : Call) (why : ℕ) (z : Outcome) → (why ≡ 0 → StaysMirrored opening b c z) → StaysMirrored opening b c (unless why t z)
+unless-ok opening t b now c why z h = cond-ind (StaysMirrored opening b c) (eqb why 0) (λ e. h (eqb-true why 0 e)) (λ _. refused opening t b now c why)
 
 -- WHAT IS TO BE SHOWN of a change
 -- one record's value and word change
-pub shown-set : (c : ℕ → Version) (values words values′ : List ℕ) (item word : ℕ) (x : Version) → AllShown c values words →
-    ((j : ℕ) → j ≢ item → getD values′ j 0 ≡ getD values j 0) → item < length words → Shown x (getD values′ item 0) word → AllShown (changed item x c) values′ (set words item word)
-shown-set c values words values′ item word x h other l m =
-    changed-ind (λ j z. j < length (set words item word) → Shown z (getD values′ j 0) (getD (set words item word) j 0)) item x c
+pub words-show-set : (c : ℕ → Version) (values words values′ : List ℕ) (item word : ℕ) (x : Version) → WordsShow c values words →
+    ((j : ℕ) → j ≢ item → getD values′ j 0 ≡ getD values j 0) → item < length words → WordShows x (getD values′ item 0) word → WordsShow (changed item x c) values′ (set words item word)
+words-show-set c values words values′ item word x h other l m =
+    changed-ind (λ j z. j < length (set words item word) → WordShows z (getD values′ j 0) (getD (set words item word) j 0)) item x c
     (λ _. rw (getD-set-same words item word 0 l) m)
     (λ j n q. rw (other j n, getD-set-other words item j word 0 n) (h j (rw (length-set words item word) at q)))
 
@@ -103,35 +103,35 @@ sized-same u z a b c =
     }
 
 -- row k becomes g, versions and what is sealed may change; of the other seats it is enough that they agreed
-pub agree-others : (t u : Tables) (σ : State) (b d : Observer) (k : ℕ) →
-    ((j : ℕ) → j ≢ k → σ .seat j ≡ view (b .seats j .key) (row (t .seats) j)) →
+pub agree-others : (t u : Tables) (σ : State) (b d : Observer) (s : ℕ) →
+    ((j : ℕ) → j ≢ s → σ .seat j ≡ view (b .seats j .key) (row (t .seats) j)) →
     ((j : ℕ) → phase (row (t .seats) j) ≢ 0 → SeenOk (row (t .seats) j) (b .seats j)) →
-    (S : List Transaction) (c : ℕ → Version) (s : Seat) (g : List ℕ) →
-    Sized u → AllShown c (u .values) (u .words) →
-    Becomes (t .seats) (u .seats) k g →
-    s ≡ view (d .seats k .key) g →
-    (phase g ≢ 0 → SeenOk g (d .seats k)) →
-    ((j : ℕ) → j ≢ k → d .seats j ≡ b .seats j) →
+    (S : List Transaction) (c : ℕ → Version) (seat : Seat) (g : List ℕ) →
+    Sized u → WordsShow c (u .values) (u .words) →
+    Becomes (t .seats) (u .seats) s g →
+    seat ≡ view (d .seats s .key) g →
+    (phase g ≢ 0 → SeenOk g (d .seats s)) →
+    ((j : ℕ) → j ≢ s → d .seats j ≡ b .seats j) →
     S ≡ serial (d .sealed) →
-    Agree u (record { order = S; version = c; seat = changed k s (σ .seat) }) d
-agree-others t u σ b d k rows seen S c s g sized shown be v se other o =
+    Agree u (record { order = S; version = c; seat = changed s seat (σ .seat) }) d
+agree-others t u σ b d s rows seen S c seat g sized shown be v se other o =
     record {
       sized = sized;
       shown = shown;
-      rows = changed-ind (λ j z. z ≡ view (d .seats j .key) (row (u .seats) j)) k s (σ .seat) (rw (be .own) v) (λ j n. rw (be .others j n, other j n) (rows j n));
-      seen = λ j. go j (ℕ-discrete j k);
+      rows = changed-ind (λ j z. z ≡ view (d .seats j .key) (row (u .seats) j)) s seat (σ .seat) (rw (be .own) v) (λ j n. rw (be .others j n, other j n) (rows j n));
+      seen = λ j. go j (ℕ-discrete j s);
       order = o;
     }
   where
-    go : (j : ℕ) → Dec (j ≡ k) → phase (row (u .seats) j) ≢ 0 → SeenOk (row (u .seats) j) (d .seats j)
+    go : (j : ℕ) → Dec (j ≡ s) → phase (row (u .seats) j) ≢ 0 → SeenOk (row (u .seats) j) (d .seats j)
     go j (yes e) = rw (e, be .own) se
     go j (no n) = rw (be .others j n, other j n) (seen j)
 
-module _ {t : Tables} {σ : State} {b : Observer} (h : Agree t σ b) (u : Tables) (c : ℕ → Version) (k : ℕ) (s : Seat) (g : List ℕ)
-    (va : length (u .values) ≡ length (t .values)) (wo : length (u .words) ≡ length (t .words)) (shown : AllShown c (u .values) (u .words)) (be : Becomes (t .seats) (u .seats) k g) where
-  -- seat k is seen otherwise
-  pub agree-seeing : (x : Seen) → s ≡ view (x .key) g → (phase g ≢ 0 → SeenOk g x) →
-      Agree u (record { order = σ .order; version = c; seat = changed k s (σ .seat) }) (seeing b k x)
+module _ {t : Tables} {σ : State} {b : Observer} (h : Agree t σ b) (u : Tables) (c : ℕ → Version) (s : ℕ) (seat : Seat) (g : List ℕ)
+    (va : length (u .values) ≡ length (t .values)) (wo : length (u .words) ≡ length (t .words)) (shown : WordsShow c (u .values) (u .words)) (be : Becomes (t .seats) (u .seats) s g) where
+  -- seat s is seen otherwise
+  pub agree-seeing : (x : Seen) → seat ≡ view (x .key) g → (phase g ≢ 0 → SeenOk g x) →
+      Agree u (record { order = σ .order; version = c; seat = changed s seat (σ .seat) }) (seeing b s x)
   agree-seeing x v se =
-      agree-others t u σ b (seeing b k x) k (λ j n. h .rows j) (h .seen) (σ .order) c s g (sized-same u (h .sized) va wo (be .size)) shown be
-      (rw (changed-same k x (b .seats)) v) (rw (changed-same k x (b .seats)) se) (λ j n. changed-other k x (b .seats) j n) (h .order)
+      agree-others t u σ b (seeing b s x) s (λ j n. h .rows j) (h .seen) (σ .order) c seat g (sized-same u (h .sized) va wo (be .size)) shown be
+      (rw (changed-same s x (b .seats)) v) (rw (changed-same s x (b .seats)) se) (λ j n. changed-other s x (b .seats) j n) (h .order)

@@ -11,7 +11,7 @@ use borrow.Author.Tests.{eqb-true, leb-true, leb-false, eq-eqb, ne-eqb}
 use lib.Dec.{eqb}
 use Rattle.rows.specs.Fine.{cond-ind}
 use Rattle.observer.specs.Observer.{Transaction}
-use Rattle.serial.specs.Statement.{before, placed, allPlaced, serial}
+use Rattle.serial.specs.Statement.{precedes, ranked, allRanked, serial}
 use Rattle.serial.specs.Order.{Sorted, withKey, SerialOrdered, OneOrder}
 
 -- where the first key is greater than k, every key is
@@ -20,58 +20,58 @@ unfolding Sorted
 all-later k Z S s l U i = ⊎-elim (λ (e : U ≡ Z). rw e l) (λ (j : In U S). let h = s .0 U j in omega arith) (uncons i)
 
 -- a later one goes behind those whose key is not greater, and before the others
-pub before-yes : (U T : Transaction) → before U T ≡ true → U .key ≤ T .key
-unfolding before
-before-yes U T e = omega (arith, leb-true)
+pub precedes-yes : (U T : Transaction) → precedes U T ≡ true → U .key ≤ T .key
+unfolding precedes
+precedes-yes U T e = omega (arith, leb-true)
 
-pub before-no : (U T : Transaction) → before U T ≡ false → T .key < U .key
-unfolding before
-before-no U T e = omega (arith, leb-false)
+pub precedes-no : (U T : Transaction) → precedes U T ≡ false → T .key < U .key
+unfolding precedes
+precedes-no U T e = omega (arith, leb-false)
 
--- ONE PLACED
+-- ONE RANKED
 module _ (T : Transaction) where
-  pub in-placed : (S : List Transaction) (U : Transaction) → In U (placed T S) → (U ≡ T) ⊎ In U S
-  unfolding placed
-  in-placed [] U i = inl (eq-of-singleton i)
-  in-placed (Z ∷ S) U i =
-      cond-ind (λ (l : List Transaction). In U l → (U ≡ T) ⊎ In U (Z ∷ S)) (before Z T)
-      (λ _ i. ⊎-elim (λ (e : U ≡ Z). inr (here e)) (λ (j : In U (placed T S)). ⊎-elim (λ (e : U ≡ T). inl e) (λ (m : In U S). inr (there m)) (in-placed S U j)) (uncons i))
+  pub in-ranked : (S : List Transaction) (U : Transaction) → In U (ranked T S) → (U ≡ T) ⊎ In U S
+  unfolding ranked
+  in-ranked [] U i = inl (eq-of-singleton i)
+  in-ranked (Z ∷ S) U i =
+      cond-ind (λ (l : List Transaction). In U l → (U ≡ T) ⊎ In U (Z ∷ S)) (precedes Z T)
+      (λ _ i. ⊎-elim (λ (e : U ≡ Z). inr (here e)) (λ (j : In U (ranked T S)). ⊎-elim (λ (e : U ≡ T). inl e) (λ (m : In U S). inr (there m)) (in-ranked S U j)) (uncons i))
       (λ _ i. uncons i)
       i
 
-  pub sorted-placed : (S : List Transaction) → Sorted S → Sorted (placed T S)
-  unfolding placed Sorted
-  sorted-placed [] s = (λ U i. absurd (not-nil i), tt)
-  sorted-placed (Z ∷ S) s =
-      cond-ind Sorted (before Z T)
-      (λ a. (λ U i. ⊎-elim (λ (e : U ≡ T). rw e (before-yes Z T a)) (λ (j : In U S). s .0 U j) (in-placed S U i), sorted-placed S (s .1)))
-      (λ a. (λ U i. let h = all-later (T .key) Z S s (before-no Z T a) U i in omega arith, s))
+  pub sorted-ranked : (S : List Transaction) → Sorted S → Sorted (ranked T S)
+  unfolding ranked Sorted
+  sorted-ranked [] s = (λ U i. absurd (not-nil i), tt)
+  sorted-ranked (Z ∷ S) s =
+      cond-ind Sorted (precedes Z T)
+      (λ a. (λ U i. ⊎-elim (λ (e : U ≡ T). rw e (precedes-yes Z T a)) (λ (j : In U S). s .0 U j) (in-ranked S U i), sorted-ranked S (s .1)))
+      (λ a. (λ U i. let h = all-later (T .key) Z S s (precedes-no Z T a) U i in omega arith, s))
 
-  permuted-placed : (S : List Transaction) → Permutation (T ∷ S) (placed T S)
-  unfolding placed
-  permuted-placed [] = perm-refl (T ∷ [])
-  permuted-placed (Z ∷ S) =
-      cond-ind (Permutation (T ∷ Z ∷ S)) (before Z T) (λ _. perm-trans (perm-swap refl refl) (perm-cons refl (permuted-placed S))) (λ _. perm-refl (T ∷ Z ∷ S))
+  permuted-ranked : (S : List Transaction) → Permutation (T ∷ S) (ranked T S)
+  unfolding ranked
+  permuted-ranked [] = perm-refl (T ∷ [])
+  permuted-ranked (Z ∷ S) =
+      cond-ind (Permutation (T ∷ Z ∷ S)) (precedes Z T) (λ _. perm-trans (perm-swap refl refl) (perm-cons refl (permuted-ranked S))) (λ _. perm-refl (T ∷ Z ∷ S))
 
--- all that are placed are there
-placed-in : (T U : Transaction) (S : List Transaction) → (U ≡ T) ⊎ In U S → In U (placed T S)
-unfolding placed
-placed-in T U [] i = ⊎-elim (λ (e : U ≡ T). here e) (λ (j : In U []). absurd (not-nil j)) i
-placed-in T U (Z ∷ S) i =
-    cond-ind (In U) (before Z T)
-    (λ _. ⊎-elim (λ (e : U ≡ T). there (placed-in T U S (inl e)))
-    (λ (j : In U (Z ∷ S)). ⊎-elim (λ (e : U ≡ Z). here e) (λ (k : In U S). there (placed-in T U S (inr k))) (uncons j)) i)
+-- all that are ranked are there
+ranked-in : (T U : Transaction) (S : List Transaction) → (U ≡ T) ⊎ In U S → In U (ranked T S)
+unfolding ranked
+ranked-in T U [] i = ⊎-elim (λ (e : U ≡ T). here e) (λ (j : In U []). absurd (not-nil j)) i
+ranked-in T U (Z ∷ S) i =
+    cond-ind (In U) (precedes Z T)
+    (λ _. ⊎-elim (λ (e : U ≡ T). there (ranked-in T U S (inl e)))
+    (λ (j : In U (Z ∷ S)). ⊎-elim (λ (e : U ≡ Z). here e) (λ (k : In U S). there (ranked-in T U S (inr k))) (uncons j)) i)
     (λ _. ⊎-elim (λ (e : U ≡ T). here e) (λ (j : In U (Z ∷ S)). there j) i)
 
 pub in-serial : (U : Transaction) (sealed : List Transaction) → In U sealed → In U (serial sealed)
-unfolding allPlaced
+unfolding allRanked
 in-serial U sealed i = go sealed [] (inr i)
   where
-    go : (Ts S : List Transaction) → In U S ⊎ In U Ts → In U (allPlaced S Ts)
+    go : (Ts S : List Transaction) → In U S ⊎ In U Ts → In U (allRanked S Ts)
     go [] S i = ⊎-elim (λ (j : In U S). j) (λ (j : In U []). absurd (not-nil j)) i
-    go (T ∷ Ts) S i = go Ts (placed T S) (⊎-elim
-        (λ (j : In U S). inl (placed-in T U S (inr j)))
-        (λ (j : In U (T ∷ Ts)). ⊎-elim (λ (e : U ≡ T). inl (placed-in T U S (inl e))) (λ (k : In U Ts). inr k) (uncons j)) i)
+    go (T ∷ Ts) S i = go Ts (ranked T S) (⊎-elim
+        (λ (j : In U S). inl (ranked-in T U S (inr j)))
+        (λ (j : In U (T ∷ Ts)). ⊎-elim (λ (e : U ≡ T). inl (ranked-in T U S (inl e))) (λ (k : In U Ts). inr k) (uncons j)) i)
 
 -- where every key is greater, none is k
 none-with : (k : ℕ) (S : List Transaction) → ((U : Transaction) → In U S → k < U .key) → withKey k S ≡ []
@@ -80,15 +80,15 @@ none-with k [] h = refl
 none-with k (T ∷ S) h = rw (ne-eqb (T .key) k (λ e. let l = h T (here refl) in omega arith)) (none-with k S (λ U i. h U (there i)))
 
 -- T stands behind all of its key
-stable-placed : (T : Transaction) (k : ℕ) (S : List Transaction) → Sorted S → withKey k (placed T S) ≡ withKey k S ++ withKey k (T ∷ [])
-unfolding placed withKey Sorted
-stable-placed T k [] s = refl
-stable-placed T k (Z ∷ S) s =
-    cond-ind (λ (l : List Transaction). withKey k l ≡ withKey k (Z ∷ S) ++ withKey k (T ∷ [])) (before Z T)
-    (λ _. within (eqb (Z .key) k) (stable-placed T k S (s .1)))
-    (λ a. first (eqb (T .key) k) refl (before-no Z T a))
+stable-ranked : (T : Transaction) (k : ℕ) (S : List Transaction) → Sorted S → withKey k (ranked T S) ≡ withKey k S ++ withKey k (T ∷ [])
+unfolding ranked withKey Sorted
+stable-ranked T k [] s = refl
+stable-ranked T k (Z ∷ S) s =
+    cond-ind (λ (l : List Transaction). withKey k l ≡ withKey k (Z ∷ S) ++ withKey k (T ∷ [])) (precedes Z T)
+    (λ _. within (eqb (Z .key) k) (stable-ranked T k S (s .1)))
+    (λ a. first (eqb (T .key) k) refl (precedes-no Z T a))
   where
-    within : (b : Bool) → withKey k (placed T S) ≡ withKey k S ++ withKey k (T ∷ []) → cond b (Z ∷ withKey k (placed T S)) (withKey k (placed T S)) ≡ cond b (Z ∷ withKey k S) (withKey k S) ++ withKey k (T ∷ [])
+    within : (b : Bool) → withKey k (ranked T S) ≡ withKey k S ++ withKey k (T ∷ []) → cond b (Z ∷ withKey k (ranked T S)) (withKey k (ranked T S)) ≡ cond b (Z ∷ withKey k S) (withKey k S) ++ withKey k (T ∷ [])
     within true e = ap (λ (l : List Transaction). Z ∷ l) e
     within false e = e
 
@@ -97,23 +97,23 @@ stable-placed T k (Z ∷ S) s =
         let e : T .key ≡ k = eqb-true _ _ q in rw (none-with k (Z ∷ S) (all-later k Z S s (omega arith)))
     first false q l = sym (append-nil (withKey k (Z ∷ S)))
 
--- ALL PLACED
-sorted-all : (Ts S : List Transaction) → Sorted S → Sorted (allPlaced S Ts)
-unfolding allPlaced
+-- ALL RANKED
+sorted-all : (Ts S : List Transaction) → Sorted S → Sorted (allRanked S Ts)
+unfolding allRanked
 sorted-all [] S s = s
-sorted-all (T ∷ Ts) S s = sorted-all Ts (placed T S) (sorted-placed T S s)
+sorted-all (T ∷ Ts) S s = sorted-all Ts (ranked T S) (sorted-ranked T S s)
 
-permuted-all : (Ts S : List Transaction) → Permutation (S ++ Ts) (allPlaced S Ts)
-unfolding allPlaced
+permuted-all : (Ts S : List Transaction) → Permutation (S ++ Ts) (allRanked S Ts)
+unfolding allRanked
 permuted-all [] S = perm-nil S
-permuted-all (T ∷ Ts) S = perm-trans (perm-middle T S Ts) (perm-trans (perm-append Ts (permuted-placed T S)) (permuted-all Ts (placed T S)))
+permuted-all (T ∷ Ts) S = perm-trans (perm-middle T S Ts) (perm-trans (perm-append Ts (permuted-ranked T S)) (permuted-all Ts (ranked T S)))
 
-stable-all : (k : ℕ) (Ts S : List Transaction) → Sorted S → withKey k (allPlaced S Ts) ≡ withKey k S ++ withKey k Ts
-unfolding allPlaced withKey
+stable-all : (k : ℕ) (Ts S : List Transaction) → Sorted S → withKey k (allRanked S Ts) ≡ withKey k S ++ withKey k Ts
+unfolding allRanked withKey
 stable-all k [] S s = sym (append-nil (withKey k S))
 stable-all k (T ∷ Ts) S s =
-    stable-all k Ts (placed T S) (sorted-placed T S s)
-    ∙ ap (λ (l : List Transaction). l ++ withKey k Ts) (stable-placed T k S s)
+    stable-all k Ts (ranked T S) (sorted-ranked T S s)
+    ∙ ap (λ (l : List Transaction). l ++ withKey k Ts) (stable-ranked T k S s)
     ∙ append-assoc (withKey k S) (withKey k (T ∷ [])) (withKey k Ts)
     ∙ ap (λ (l : List Transaction). withKey k S ++ l) (go (eqb (T .key) k))
   where
@@ -127,14 +127,14 @@ unfolding Sorted withKey
 serial-ordered sealed =
     record { sorted = sorted-all sealed [] tt; permuted = permuted-all sealed []; stable = λ k. stable-all k sealed [] tt }
 
--- one sealed last is placed last
-pub serial-more : (S : List Transaction) (T : Transaction) → serial (S ++ (T ∷ [])) ≡ placed T (serial S)
-unfolding allPlaced
+-- one sealed last is ranked last
+pub serial-more : (S : List Transaction) (T : Transaction) → serial (S ++ (T ∷ [])) ≡ ranked T (serial S)
+unfolding allRanked
 serial-more S T = go S []
   where
-    go : (S Z : List Transaction) → allPlaced Z (S ++ (T ∷ [])) ≡ placed T (allPlaced Z S)
+    go : (S Z : List Transaction) → allRanked Z (S ++ (T ∷ [])) ≡ ranked T (allRanked Z S)
     go [] Z = refl
-    go (U ∷ S) Z = go S (placed U Z)
+    go (U ∷ S) Z = go S (ranked U Z)
 
 -- AND NO OTHER LIST IS
 with-head : (T : Transaction) (S : List Transaction) → withKey (T .key) (T ∷ S) ≡ T ∷ withKey (T .key) S

@@ -77,11 +77,11 @@ abbrev pub closed : Version → ℕ
 closed x = keyOr (x .due) (x .upTo)
 
 -- a seat has a store of the record left; a seat holds its lock
-abbrev pub Left : Seat → ℕ → Type 0
-Left free item = ⊥
-Left (working rs ws) item = ⊥
-Left (checking t ok rs ws) item = ⊥
-Left (storing t ws) item = Named item ws
+abbrev pub StoreLeft : Seat → ℕ → Type 0
+StoreLeft free item = ⊥
+StoreLeft (working rs ws) item = ⊥
+StoreLeft (checking t ok rs ws) item = ⊥
+StoreLeft (storing t ws) item = Named item ws
 
 abbrev pub Holds : Seat → ℕ → Type 0
 Holds free item = ⊥
@@ -96,14 +96,14 @@ KeyIsTime (working rs ws) = Unit {0}
 KeyIsTime (checking t ok rs ws) = t .key ≡ t .time
 KeyIsTime (storing t ws) = t .key ≡ t .time
 
-pub record ByTime (S : List Transaction) (seat : ℕ → Seat) : Type 0 where
-  pub seats : (k : ℕ) → KeyIsTime (seat k)
+pub record ByTime (S : List Transaction) (seatOf : ℕ → Seat) : Type 0 where
+  pub seats : (s : ℕ) → KeyIsTime (seatOf s)
   pub sealed : (T : Transaction) → In T S → T .key ≡ T .time
 
 -- a read entry that may pass at a stamp
 pub record Fits (x : Version) (t : Stamp) (e : ReadEntry) : Type 0 where
   pub current : x .wrote ≡ e .wrote → x .from ≤ t .key
-  pub kept : e .wrote ≤ t .key
+  pub not-early : e .wrote ≤ t .key
 
 -- a version that may be stored over at a stamp
 pub record Below (x : Version) (t : Stamp) : Type 0 where
@@ -122,8 +122,8 @@ module _ (opening : Values) where
     pub due-below : (d : Due) → x .due ≡ some d → Below x (d .stamp)
     pub due-held : x .holder ≡ none → x .due ≡ none
     -- from its store up to the one to come, and from that one on
-    pub kept : (u : ℕ) → x .from ≤ u → ((d : Due) → x .due ≡ some d → u < d .stamp .key) → val S item u ≡ x .value
-    pub now : (u : ℕ) → keyOr (x .due) (x .from) ≤ u → val S item u ≡ storedOr (x .due) (x .value)
+    pub up-to-due : (u : ℕ) → x .from ≤ u → ((d : Due) → x .due ≡ some d → u < d .stamp .key) → val S item u ≡ x .value
+    pub from-due : (u : ℕ) → keyOr (x .due) (x .from) ≤ u → val S item u ≡ storedOr (x .due) (x .value)
     pub readers : (T : Transaction) → In T S → (e : FirstRead) → In e (T .reads) → e .item ≡ item → T .key ≤ closed x
     pub writers : (T : Transaction) → In T S → (w : WriteEntry) → In w (T .writes) → w .item ≡ item → T .key ≤ closed x
 
@@ -139,42 +139,42 @@ module _ (opening : Values) where
     pub seen : val S (e .told .item) key ≡ e .told .value
     pub safe : (key ≤ closed x) ⊎ Named (e .told .item) ws
 
-  pub record Held (k : ℕ) (x : Version) : Type 0 where
-    pub mine : x .holder ≡ some k
+  pub record Held (s : ℕ) (x : Version) : Type 0 where
+    pub mine : x .holder ≡ some s
     pub idle : x .due ≡ none
 
-  pub record WorkingOk (S : List Transaction) (c : ℕ → Version) (k : ℕ) (rs : List ReadEntry) (ws : List WriteEntry) : Type 0 where
+  pub record WorkingOk (S : List Transaction) (c : ℕ → Version) (s : ℕ) (rs : List ReadEntry) (ws : List WriteEntry) : Type 0 where
     pub entries : (e : ReadEntry) → In e rs → EntryOk S (c (e .told .item)) e
-    pub held : (w : WriteEntry) → In w ws → Held k (c (w .item))
+    pub held : (w : WriteEntry) → In w ws → Held s (c (w .item))
     pub distinct : Distinct ws
 
-  pub record CheckingOk (S : List Transaction) (c : ℕ → Version) (k : ℕ) (t : Stamp) (ok rs : List ReadEntry) (ws : List WriteEntry) : Type 0 where
+  pub record CheckingOk (S : List Transaction) (c : ℕ → Version) (s : ℕ) (t : Stamp) (ok rs : List ReadEntry) (ws : List WriteEntry) : Type 0 where
     pub passed : (e : ReadEntry) → In e ok → Covered S (c (e .told .item)) (t .key) ws e
     pub entries : (e : ReadEntry) → In e rs → EntryOk S (c (e .told .item)) e
     pub fits : (e : ReadEntry) → In e rs → Fits (c (e .told .item)) t e
-    pub held : (w : WriteEntry) → In w ws → Held k (c (w .item))
+    pub held : (w : WriteEntry) → In w ws → Held s (c (w .item))
     pub below : (w : WriteEntry) → In w ws → Below (c (w .item)) t
     pub distinct : Distinct ws
 
-  pub record StoringOk (c : ℕ → Version) (k : ℕ) (t : Stamp) (ws : List WriteEntry) : Type 0 where
-    pub mine : (w : WriteEntry) → In w ws → c (w .item) .holder ≡ some k
+  pub record StoringOk (c : ℕ → Version) (s : ℕ) (t : Stamp) (ws : List WriteEntry) : Type 0 where
+    pub mine : (w : WriteEntry) → In w ws → c (w .item) .holder ≡ some s
     pub due : (w : WriteEntry) → In w ws → c (w .item) .due ≡ some (record { stamp = t; entry = w })
     pub distinct : Distinct ws
 
   abbrev pub SeatOk : List Transaction → (ℕ → Version) → ℕ → Seat → Type 0
-  SeatOk S c k free = Unit {0}
-  SeatOk S c k (working rs ws) = WorkingOk S c k rs ws
-  SeatOk S c k (checking t ok rs ws) = CheckingOk S c k t ok rs ws
-  SeatOk S c k (storing t ws) = StoringOk c k t ws
+  SeatOk S c s free = Unit {0}
+  SeatOk S c s (working rs ws) = WorkingOk S c s rs ws
+  SeatOk S c s (checking t ok rs ws) = CheckingOk S c s t ok rs ws
+  SeatOk S c s (storing t ws) = StoringOk c s t ws
 
   -- THE INVARIANT
   pub record Inv (σ : State) : Type 0 where
     pub sorted : Sorted (σ .order)
     pub right : Right (σ .order) opening
     pub versions : (item : ℕ) → VersionOk (σ .order) item (σ .version item)
-    pub seats : (k : ℕ) → SeatOk (σ .order) (σ .version) k (σ .seat k)
+    pub seats : (s : ℕ) → SeatOk (σ .order) (σ .version) s (σ .seat s)
     pub by-time : ByTime (σ .order) (σ .seat)
-    pub holders : (item k : ℕ) → σ .version item .holder ≡ some k → Holds (σ .seat k) item
+    pub holders : (item s : ℕ) → σ .version item .holder ≡ some s → Holds (σ .seat s) item
 
   pub upTo-closed : {S : List Transaction} {item : ℕ} (x : Version) → VersionOk S item x → x .upTo ≤ closed x
   upTo-closed x h = go (x .due) refl

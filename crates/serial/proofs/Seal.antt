@@ -6,20 +6,20 @@ use mathlib.Core.Option.{none, some}
 use mathlib.Core.List.{List, [], map, List·Memᴰ as In, Memᴰ·of-map as in-map}
 use native.Mathlib.Omega.{arith}
 use Rattle.observer.specs.Observer.{FirstRead, WriteEntry, Transaction, changed}
-use Rattle.serial.specs.Statement.{Values, applied, Right, placed}
+use Rattle.serial.specs.Statement.{Values, applied, Right, ranked}
 use Rattle.serial.specs.Order.{Sorted}
-use Rattle.serial.proofs.Order.{in-placed, sorted-placed}
-use Rattle.serial.proofs.Timeline.{Named, Absent, find, distinct-same, written-named, upto-below, upto-absent, upto-above, right-placed}
+use Rattle.serial.proofs.Order.{in-ranked, sorted-ranked}
+use Rattle.serial.proofs.Timeline.{Named, Absent, find, distinct-same, written-named, upto-below, upto-absent, upto-above, right-ranked}
 use Rattle.serial.proofs.Protocol.{Stamp, Due, Version, ReadEntry, State, checking, storing, closed, Below, none-some, some-same, val, VersionOk, CheckingOk, Inv}
 use Rattle.serial.proofs.Growth.{Grows, Stays, stays-other, step, keep-holds}
 use Rattle.serial.proofs.Versions.{quiet}
 
--- what its reader was told
-abbrev pub told : ReadEntry → FirstRead
-told e = e .told
+-- what its reader was firstReadOf
+abbrev pub firstReadOf : ReadEntry → FirstRead
+firstReadOf e = e .told
 
 abbrev pub transactionOf : Stamp → List ReadEntry → List WriteEntry → Transaction
-transactionOf t ok ws = record { time = t .time; key = t .key; reads = map told ok; writes = ws }
+transactionOf t ok ws = record { time = t .time; key = t .key; reads = map firstReadOf ok; writes = ws }
 
 -- a version as its store becomes due, if there is one
 abbrev pub marked : {item : ℕ} {ws : List WriteEntry} → Stamp → Named item ws ⊎ Absent item ws → Version → Version
@@ -31,12 +31,12 @@ abbrev pub allMarked : Stamp → List WriteEntry → (ℕ → Version) → ℕ �
 allMarked t ws c item = marked t (find item ws) (c item)
 
 module _ (opening : Values) (S : List Transaction) (c : ℕ → Version) (so : Sorted S) (ve : (item : ℕ) → VersionOk opening S item (c item))
-    (k : ℕ) (t : Stamp) (ok : List ReadEntry) (ws : List WriteEntry) (h : CheckingOk opening S c k t ok [] ws) where
+    (s : ℕ) (t : Stamp) (ok : List ReadEntry) (ws : List WriteEntry) (h : CheckingOk opening S c s t ok [] ws) where
   abbrev T : Transaction
   T = transactionOf t ok ws
 
   -- A RECORD THAT IT WRITES: its lock is held, nothing is due, and it may be stored over
-  named-mine : (item : ℕ) → Named item ws → c item .holder ≡ some k
+  named-mine : (item : ℕ) → Named item ws → c item .holder ≡ some s
   named-mine item p = rw (p .2) at (h .held (p .0) (p .1) .mine)
 
   named-idle : (item : ℕ) → Named item ws → c item .due ≡ none
@@ -50,10 +50,10 @@ module _ (opening : Values) (S : List Transaction) (c : ℕ → Version) (so : S
   named-early item p u q = let z : u ≤ c item .upTo = (rw (named-idle item p) at q) in omega (arith, named-below item p .key)
 
   -- the run's values: below its key, from its key on, and of what it does not write
-  below : (item u : ℕ) → u < t .key → val opening (placed T S) item u ≡ val opening S item u
+  below : (item u : ℕ) → u < t .key → val opening (ranked T S) item u ≡ val opening S item u
   below item u p = upto-below T S u item (opening item) p
 
-  above : (item : ℕ) (p : Named item ws) (u : ℕ) → t .key ≤ u → val opening (placed T S) item u ≡ applied (p .0) (c item .value)
+  above : (item : ℕ) (p : Named item ws) (u : ℕ) → t .key ≤ u → val opening (ranked T S) item u ≡ applied (p .0) (c item .value)
   above item p u q =
       let b = named-below item p .key in
       let m = ve item .range in
@@ -61,35 +61,35 @@ module _ (opening : Values) (S : List Transaction) (c : ℕ → Version) (so : S
       ∙ written-named ws (p .0) item (val opening S item u) (h .distinct) (p .1) (p .2)
       ∙ ap (applied (p .0)) (quiet opening S item (c item) (ve item) (named-idle item p) u (omega arith))
 
-  aside : (item : ℕ) → Absent item ws → (u : ℕ) → val opening (placed T S) item u ≡ val opening S item u
+  aside : (item : ℕ) → Absent item ws → (u : ℕ) → val opening (ranked T S) item u ≡ val opening S item u
   aside item a u = upto-absent T S u item (opening item) a
 
   -- ITS READS have passed
   read-closed : (item : ℕ) → Absent item ws → (e : FirstRead) → In e (T .reads) → e .item ≡ item → t .key ≤ closed (c item)
   read-closed item a e i q =
-      let m = in-map told ok i in
+      let m = in-map firstReadOf ok i in
       let n : m .0 .told .item ≡ item = ap (λ (z : FirstRead). z .item) (m .2) ∙ q in
       ⊎-elim (λ (p : t .key ≤ closed (c (m .0 .told .item))). rw n at p) (λ (p : Named (m .0 .told .item) ws). absurd (a (p .0) (p .1) (p .2 ∙ n))) (h .passed (m .0) (m .1) .safe)
 
-  seal-right : Right S opening → Right (placed T S) opening
+  seal-right : Right S opening → Right (ranked T S) opening
   seal-right ri =
-      right-placed T S opening so
-      (λ e i. let m = in-map told ok i in rw (sym (m .2)) (h .passed (m .0) (m .1) .seen))
+      right-ranked T S opening so
+      (λ e i. let m = in-map firstReadOf ok i in rw (sym (m .2)) (h .passed (m .0) (m .1) .seen))
       (λ U i l e j w n q. let z = named-early (e .item) (w, n, q) (U .key) (ve (e .item) .readers U i e j refl) in omega arith)
       ri
 
   -- THE VERSIONS
-  marked-ok : (item : ℕ) (d : Named item ws ⊎ Absent item ws) → VersionOk opening (placed T S) item (marked t d (c item))
+  marked-ok : (item : ℕ) (d : Named item ws ⊎ Absent item ws) → VersionOk opening (ranked T S) item (marked t d (c item))
   marked-ok item (inl p) =
       record {
         range = ve item .range;
         wrote-low = ve item .wrote-low;
         due-below = λ d e. rw (is d e) (record { key = named-below item p .key; time = named-below item p .time });
-        due-held = λ e. absurd (none-some (c item .holder) k e (named-mine item p));
-        kept = λ u a b. below item u (b (record { stamp = t; entry = p .0 }) refl) ∙ quiet opening S item (c item) (ve item) (named-idle item p) u a;
-        now = λ u a. above item p u a;
-        readers = λ U i e j q. ⊎-elim (λ (z : U ≡ T). rw z (omega arith)) (λ (z : In U S). let y = named-early item p (U .key) (ve item .readers U z e j q) in omega arith) (in-placed T S U i);
-        writers = λ U i w j q. ⊎-elim (λ (z : U ≡ T). rw z (omega arith)) (λ (z : In U S). let y = named-early item p (U .key) (ve item .writers U z w j q) in omega arith) (in-placed T S U i);
+        due-held = λ e. absurd (none-some (c item .holder) s e (named-mine item p));
+        up-to-due = λ u a b. below item u (b (record { stamp = t; entry = p .0 }) refl) ∙ quiet opening S item (c item) (ve item) (named-idle item p) u a;
+        from-due = λ u a. above item p u a;
+        readers = λ U i e j q. ⊎-elim (λ (z : U ≡ T). rw z (omega arith)) (λ (z : In U S). let y = named-early item p (U .key) (ve item .readers U z e j q) in omega arith) (in-ranked T S U i);
+        writers = λ U i w j q. ⊎-elim (λ (z : U ≡ T). rw z (omega arith)) (λ (z : In U S). let y = named-early item p (U .key) (ve item .writers U z w j q) in omega arith) (in-ranked T S U i);
       }
     where
       is : (d : Due) → some (record { stamp = t; entry = p .0 }) ≡ some d → d .stamp ≡ t
@@ -100,13 +100,13 @@ module _ (opening : Values) (S : List Transaction) (c : ℕ → Version) (so : S
         wrote-low = ve item .wrote-low;
         due-below = ve item .due-below;
         due-held = ve item .due-held;
-        kept = λ u p q. aside item a u ∙ ve item .kept u p q;
-        now = λ u p. aside item a u ∙ ve item .now u p;
-        readers = λ U i e j q. ⊎-elim (λ (z : U ≡ T). rw z (read-closed item a e (rw z at j) q)) (λ (z : In U S). ve item .readers U z e j q) (in-placed T S U i);
-        writers = λ U i w j q. ⊎-elim (λ (z : U ≡ T). absurd (a w (rw z at j) q)) (λ (z : In U S). ve item .writers U z w j q) (in-placed T S U i);
+        up-to-due = λ u p q. aside item a u ∙ ve item .up-to-due u p q;
+        from-due = λ u p. aside item a u ∙ ve item .from-due u p;
+        readers = λ U i e j q. ⊎-elim (λ (z : U ≡ T). rw z (read-closed item a e (rw z at j) q)) (λ (z : In U S). ve item .readers U z e j q) (in-ranked T S U i);
+        writers = λ U i w j q. ⊎-elim (λ (z : U ≡ T). absurd (a w (rw z at j) q)) (λ (z : In U S). ve item .writers U z w j q) (in-ranked T S U i);
       }
 
-  marked-grows : (item : ℕ) (d : Named item ws ⊎ Absent item ws) → Grows opening S (placed T S) item (c item) (marked t d (c item))
+  marked-grows : (item : ℕ) (d : Named item ws ⊎ Absent item ws) → Grows opening S (ranked T S) item (c item) (marked t d (c item))
   marked-grows item (inl p) =
       let b = named-below item p .key in
       record {
@@ -120,14 +120,14 @@ module _ (opening : Values) (S : List Transaction) (c : ℕ → Version) (so : S
   marked-grows item (inr a) =
       record { newer = omega arith; longer = omega arith; wider = omega arith; past = λ u q. aside item a u; same-value = λ q. refl; same-from = λ q. refl }
 
-  marked-stays : (j : ℕ) → j ≢ k → (item : ℕ) (d : Named item ws ⊎ Absent item ws) → Stays opening j S (placed T S) item (c item) (marked t d (c item))
+  marked-stays : (j : ℕ) → j ≢ s → (item : ℕ) (d : Named item ws ⊎ Absent item ws) → Stays opening j S (ranked T S) item (c item) (marked t d (c item))
   marked-stays j n item (inl p) =
-      stays-other opening j S (placed T S) item (c item) _ (λ e. n (some-same (c item .holder) j k e (named-mine item p)))
+      stays-other opening j S (ranked T S) item (c item) _ (λ e. n (some-same (c item .holder) j s e (named-mine item p)))
   marked-stays j n item (inr a) =
       record { same-holder = λ q. q; same-wrote = λ q. refl; same-upTo = λ q. refl; same-due = λ q. refl; same-run = λ q u. aside item a u }
 
   -- ITS STORES
-  marked-mine : (w : WriteEntry) → In w ws → (d : Named (w .item) ws ⊎ Absent (w .item) ws) → marked t d (c (w .item)) .holder ≡ some k
+  marked-mine : (w : WriteEntry) → In w ws → (d : Named (w .item) ws ⊎ Absent (w .item) ws) → marked t d (c (w .item)) .holder ≡ some s
   marked-mine w i (inl p) = h .held w i .mine
   marked-mine w i (inr a) = absurd (a w i refl)
 
@@ -137,31 +137,31 @@ module _ (opening : Values) (S : List Transaction) (c : ℕ → Version) (so : S
 
 -- THE STEP
 abbrev pub sealed : State → ℕ → Stamp → List ReadEntry → List WriteEntry → State
-sealed σ k t ok ws =
-    record { order = placed (transactionOf t ok ws) (σ .order); version = allMarked t ws (σ .version); seat = changed k (storing t ws) (σ .seat) }
+sealed σ s t ok ws =
+    record { order = ranked (transactionOf t ok ws) (σ .order); version = allMarked t ws (σ .version); seat = changed s (storing t ws) (σ .seat) }
 
-pub seal-inv : (opening : Values) (σ : State) (k : ℕ) (t : Stamp) (ok : List ReadEntry) (ws : List WriteEntry) → σ .seat k ≡ checking t ok [] ws → Inv opening σ → Inv opening (sealed σ k t ok ws)
-seal-inv opening σ k t ok ws e h =
-    step opening σ (placed (transactionOf t ok ws) (σ .order)) (allMarked t ws (σ .version)) k (storing t ws) h
-    (sorted-placed (transactionOf t ok ws) (σ .order) (h .sorted))
-    (seal-right opening (σ .order) (σ .version) (h .sorted) (h .versions) k t ok ws ck (h .right))
-    (λ item. marked-ok opening (σ .order) (σ .version) (h .sorted) (h .versions) k t ok ws ck item (find item ws))
-    (λ item. marked-grows opening (σ .order) (σ .version) (h .sorted) (h .versions) k t ok ws ck item (find item ws))
-    (λ j n item. marked-stays opening (σ .order) (σ .version) (h .sorted) (h .versions) k t ok ws ck j n item (find item ws))
+pub seal-inv : (opening : Values) (σ : State) (s : ℕ) (t : Stamp) (ok : List ReadEntry) (ws : List WriteEntry) → σ .seat s ≡ checking t ok [] ws → Inv opening σ → Inv opening (sealed σ s t ok ws)
+seal-inv opening σ s t ok ws e h =
+    step opening σ (ranked (transactionOf t ok ws) (σ .order)) (allMarked t ws (σ .version)) s (storing t ws) h
+    (sorted-ranked (transactionOf t ok ws) (σ .order) (h .sorted))
+    (seal-right opening (σ .order) (σ .version) (h .sorted) (h .versions) s t ok ws ck (h .right))
+    (λ item. marked-ok opening (σ .order) (σ .version) (h .sorted) (h .versions) s t ok ws ck item (find item ws))
+    (λ item. marked-grows opening (σ .order) (σ .version) (h .sorted) (h .versions) s t ok ws ck item (find item ws))
+    (λ j n item. marked-stays opening (σ .order) (σ .version) (h .sorted) (h .versions) s t ok ws ck j n item (find item ws))
     (record {
-      mine = λ w i. marked-mine opening (σ .order) (σ .version) (h .sorted) (h .versions) k t ok ws ck w i (find (w .item) ws);
-      due = λ w i. marked-due opening (σ .order) (σ .version) (h .sorted) (h .versions) k t ok ws ck w i (find (w .item) ws);
+      mine = λ w i. marked-mine opening (σ .order) (σ .version) (h .sorted) (h .versions) s t ok ws ck w i (find (w .item) ws);
+      due = λ w i. marked-due opening (σ .order) (σ .version) (h .sorted) (h .versions) s t ok ws ck w i (find (w .item) ws);
       distinct = ck .distinct;
     })
     timed
-    (λ U i. ⊎-elim (λ (z : U ≡ transactionOf t ok ws). rw z timed) (λ (z : In U (σ .order)). h .by-time .sealed U z) (in-placed (transactionOf t ok ws) (σ .order) U i))
-    (λ item j q. keep-holds opening σ k (storing t ws) h item (rw e (λ z. z)) j (sym (same-holder item (find item ws)) ∙ q))
+    (λ U i. ⊎-elim (λ (z : U ≡ transactionOf t ok ws). rw z timed) (λ (z : In U (σ .order)). h .by-time .sealed U z) (in-ranked (transactionOf t ok ws) (σ .order) U i))
+    (λ item j q. keep-holds opening σ s (storing t ws) h item (rw e (λ z. z)) j (sym (same-holder item (find item ws)) ∙ q))
   where
-    ck : CheckingOk opening (σ .order) (σ .version) k t ok [] ws
-    ck = rw e at (h .seats k)
+    ck : CheckingOk opening (σ .order) (σ .version) s t ok [] ws
+    ck = rw e at (h .seats s)
 
     timed : t .key ≡ t .time
-    timed = rw e at (h .by-time .seats k)
+    timed = rw e at (h .by-time .seats s)
 
     same-holder : (item : ℕ) (d : Named item ws ⊎ Absent item ws) → marked t d (σ .version item) .holder ≡ σ .version item .holder
     same-holder item (inl z) = refl

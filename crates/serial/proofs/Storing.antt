@@ -26,75 +26,75 @@ use Rattle.serial.proofs.Versions.{stored}
 use Rattle.serial.proofs.Steps.{reseat, reversion, stores, finishes}
 use Rattle.observer.proofs.Segments.{seg, seg-next, seg-end}
 use Rattle.serial.proofs.View.{seatOf, view-storing, nudged-view}
-use Rattle.serial.proofs.Agree.{Shown, SeenOk, Good, stampAt, Ok, shown-set, seen-nudged, agree-seeing}
+use Rattle.serial.proofs.Agree.{WordShows, SeenOk, Mirrored, stampAt, StaysMirrored, words-show-set, seen-nudged, agree-seeing}
 
-module _ (opening : Values) (t : Tables) (b : Observer) (g : Good opening t b) (o k last : ℕ) (fi : Fine t o k 0 last) (four : phase (row (t .seats) k) ≡ 4) where
-  abbrev gr : List ℕ
-  gr = row (t .seats) k
+module _ (opening : Values) (t : Tables) (b : Observer) (now : Mirrored opening t b) (o s last : ℕ) (fi : Fine t o s 0 last) (four : phase (row (t .seats) s) ≡ 4) where
+  abbrev g : List ℕ
+  g = row (t .seats) s
 
-  seen : SeenOk gr (b .seats k)
-  seen = g .agree .seen k (fi .used)
+  seen : SeenOk g (b .seats s)
+  seen = now .agree .seen s (fi .used)
 
   abbrev stamp : Stamp
-  stamp = stampAt t b k
+  stamp = stampAt t b s
 
-  is-storing : g .σ .seat k ≡ storing stamp (seg (writeAt gr) (position gr) (writes gr - position gr))
-  is-storing = g .agree .rows k ∙ view-storing (b .seats k .key) gr four
+  is-storing : now .σ .seat s ≡ storing stamp (seg (writeAt g) (position g) (writes g - position g))
+  is-storing = now .agree .rows s ∙ view-storing (b .seats s .key) g four
 
-  keyed : b .seats k .key ≡ time gr
-  keyed = rw is-storing at (g .inv .by-time .seats k)
+  keyed : b .seats s .key ≡ time g
+  keyed = rw is-storing at (now .inv .by-time .seats s)
 
   -- THE STORE of the write entry at position
-  module _ (l : position gr < writes gr) where
+  module _ (l : position g < writes g) where
     abbrev item : ℕ
-    item = writeItem gr (position gr)
+    item = writeItem g (position g)
 
-    in-words : writeItem gr (position gr) < length (t .words)
-    in-words = write-item gr (length (t .words)) (fi .sound) (position gr) l
+    in-words : writeItem g (position g) < length (t .words)
+    in-words = write-item g (length (t .words)) (fi .sound) (position g) l
 
     abbrev v : ℕ
-    v = effect (writeValue gr (position gr)) (getD (t .values) (writeItem gr (position gr)) 0)
+    v = effect (writeValue g (position g)) (getD (t .values) (writeItem g (position g)) 0)
 
-    store-good : Good opening (tables (set (t .values) item v) (set (t .words) item (fresh (time gr))) (put (t .seats) k positionAt (position gr + 1))) (seeing b k (onAdvance (b .seats k) (Stored item)))
+    store-mirrored : Mirrored opening (tables (set (t .values) item v) (set (t .words) item (fresh (time g))) (put (t .seats) s positionAt (position g + 1))) (seeing b s (onAdvance (b .seats s) (Stored item)))
     unfolding seatOf onAdvance
-    store-good =
-        let p = position gr in
-        let w = writeAt gr p in
-        let x = onAdvance (b .seats k) (Stored item) in
-        let y = stored stamp w (g .σ .version item) in
-        let rest = seg (writeAt gr) (p + 1) (writes gr - (p + 1)) in
-        let n : Nudged gr (set gr positionAt (p + 1)) 4 (p + 1) (time gr) = rw four at (nudge-position (not-nudged gr (fine-row fi)) (p + 1)) in
-        let is = fresh-is (time gr) (time-top gr (length (t .words)) (fi .sound) (omega arith)) in
+    store-mirrored =
+        let p = position g in
+        let w = writeAt g p in
+        let x = onAdvance (b .seats s) (Stored item) in
+        let y = stored stamp w (now .σ .version item) in
+        let rest = seg (writeAt g) (p + 1) (writes g - (p + 1)) in
+        let n : Nudged g (set g positionAt (p + 1)) 4 (p + 1) (time g) = rw four at (nudge-position (not-nudged g (fine-row fi)) (p + 1)) in
+        let is = fresh-is (time g) (time-top g (length (t .words)) (fi .sound) (omega arith)) in
         let inside = in-words in
-        let m : Shown (g .σ .version item) (getD (t .values) item 0) (getD (t .words) item 0) = g .agree .shown item inside in
+        let m : WordShows (now .σ .version item) (getD (t .values) item 0) (getD (t .words) item 0) = now .agree .shown item inside in
         let same = fi .sized .same in
         record {
-          σ = reseat (reversion (g .σ) item y) k (storing stamp rest);
-          inv = stores opening (g .σ) (g .inv) k stamp rest w (is-storing ∙ rw (seg-next (writeAt gr) p (writes gr) l));
-          agree = agree-seeing (g .agree) (tables (set (t .values) item v) (set (t .words) item (fresh (time gr))) (put (t .seats) k positionAt (p + 1))) (changed item y (g .σ .version)) k (storing stamp rest) (set gr positionAt (p + 1))
-              (length-set (t .values) item v) (length-set (t .words) item (fresh (time gr)))
-              (shown-set (g .σ .version) (t .values) (t .words) (set (t .values) item v) item (fresh (time gr)) y (g .agree .shown) (λ j d. getD-set-other (t .values) item j v 0 d) inside
+          σ = reseat (reversion (now .σ) item y) s (storing stamp rest);
+          inv = stores opening (now .σ) (now .inv) s stamp rest w (is-storing ∙ rw (seg-next (writeAt g) p (writes g) l));
+          agree = agree-seeing (now .agree) (tables (set (t .values) item v) (set (t .words) item (fresh (time g))) (put (t .seats) s positionAt (p + 1))) (changed item y (now .σ .version)) s (storing stamp rest) (set g positionAt (p + 1))
+              (length-set (t .values) item v) (length-set (t .words) item (fresh (time g)))
+              (words-show-set (now .σ .version) (t .values) (t .words) (set (t .values) item v) item (fresh (time g)) y (now .agree .shown) (λ j d. getD-set-other (t .values) item j v 0 d) inside
               (record {
                 is-value = ap (applied w) (m .is-value) ∙ sym (getD-set-same (t .values) item v 0 (omega arith));
                 is-wrote = sym (is .is-written);
                 is-upTo = keyed ∙ sym (is .is-read);
                 idle = λ _. refl;
               }))
-              (becomes-put (t .seats) k positionAt (p + 1) (omega arith)) x (sym (nudged-view n (b .seats k .key)))
-              (λ _. seen-nudged n (b .seats k) x seen refl refl (λ _. omega (arith, seen .is-left four)));
+              (becomes-put (t .seats) s positionAt (p + 1) (omega arith)) x (sym (nudged-view n (b .seats s .key)))
+              (λ _. seen-nudged n (b .seats s) x seen refl refl (λ _. omega (arith, seen .is-left four)));
         }
 
   -- DONE, all stored
-  done-good : writes gr ≤ position gr → Good opening (tables (t .values) (t .words) (freed (t .seats) k)) (seeing b k unseen)
+  done-mirrored : writes g ≤ position g → Mirrored opening (tables (t .values) (t .words) (freed (t .seats) s)) (seeing b s unseen)
   unfolding seatOf
-  done-good l =
+  done-mirrored l =
       record {
-        σ = reseat (g .σ) k free;
-        inv = finishes opening (g .σ) (g .inv) k stamp (is-storing ∙ rw (seg-end (writeAt gr) (position gr) (writes gr) l));
-        agree = agree-seeing (g .agree) (tables (t .values) (t .words) (freed (t .seats) k)) (g .σ .version) k free freeRow refl refl (g .agree .shown) (becomes-freed (t .seats) k (fine-row fi)) unseen refl (λ d. absurd (d refl));
+        σ = reseat (now .σ) s free;
+        inv = finishes opening (now .σ) (now .inv) s stamp (is-storing ∙ rw (seg-end (writeAt g) (position g) (writes g) l));
+        agree = agree-seeing (now .agree) (tables (t .values) (t .words) (freed (t .seats) s)) (now .σ .version) s free freeRow refl refl (now .agree .shown) (becomes-freed (t .seats) s (fine-row fi)) unseen refl (λ d. absurd (d refl));
       }
 
-  pub store-phase-ok : Ok opening b (Advance o k) (storePhase t k)
+  pub store-phase-ok : StaysMirrored opening b (Advance o s) (storePhase t s)
   unfolding storePhase storeStep doneStep observe onAdvance
   store-phase-ok =
-      cond-ind (Ok opening b (Advance o k)) (ltb (position gr) (writes gr)) (λ l. store-good (ltb-true _ _ l)) (λ l. done-good (ltb-false _ _ l))
+      cond-ind (StaysMirrored opening b (Advance o s)) (ltb (position g) (writes g)) (λ l. store-mirrored (ltb-true _ _ l)) (λ l. done-mirrored (ltb-false _ _ l))

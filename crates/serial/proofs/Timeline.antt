@@ -11,9 +11,9 @@ use borrow.Author.Tests.{eq-eqb, ne-eqb, le-leb, lt-leb}
 use lib.Dec.{leb}
 use Rattle.rows.specs.Fine.{cond-ind}
 use Rattle.observer.specs.Observer.{FirstRead, WriteEntry, Transaction}
-use Rattle.serial.specs.Statement.{Values, applied, written, after, outcome, Right, before, placed}
+use Rattle.serial.specs.Statement.{Values, applied, written, valuesAfter, valuesAfterAll, Right, precedes, ranked}
 use Rattle.serial.specs.Order.{Sorted}
-use Rattle.serial.proofs.Order.{all-later, before-yes, before-no}
+use Rattle.serial.proofs.Order.{all-later, precedes-yes, precedes-no}
 
 -- WRITE ENTRIES: one names the record, or none does; and no two name the same
 abbrev pub Named : ℕ → List WriteEntry → Type 0
@@ -96,40 +96,40 @@ module _ (u : ℕ) where
   upto-late (T ∷ S) item v h = ap (upto u S item) (step-late u T item v (h T (here refl))) ∙ upto-late S item v (λ U i. h U (there i))
 
   -- none of S is later than u
-  pub upto-all : (S : List Transaction) (f : Values) (item : ℕ) → ((U : Transaction) → In U S → U .key ≤ u) → upto u S item (f item) ≡ outcome S f item
-  unfolding upto outcome
+  pub upto-all : (S : List Transaction) (f : Values) (item : ℕ) → ((U : Transaction) → In U S → U .key ≤ u) → upto u S item (f item) ≡ valuesAfterAll S f item
+  unfolding upto valuesAfterAll
   upto-all [] f item h = refl
-  upto-all (T ∷ S) f item h = ap (upto u S item) (step-up u T item (f item) (h T (here refl))) ∙ upto-all S (after T f) item (λ U i. h U (there i))
+  upto-all (T ∷ S) f item h = ap (upto u S item) (step-up u T item (f item) (h T (here refl))) ∙ upto-all S (valuesAfter T f) item (λ U i. h U (there i))
 
 -- PLACING T
 module _ (T : Transaction) where
   -- nothing below its key changes
-  pub upto-below : (S : List Transaction) (u item v : ℕ) → u < T .key → upto u (placed T S) item v ≡ upto u S item v
-  unfolding placed upto
+  pub upto-below : (S : List Transaction) (u item v : ℕ) → u < T .key → upto u (ranked T S) item v ≡ upto u S item v
+  unfolding ranked upto
   upto-below [] u item v h = step-late u T item v h
   upto-below (Z ∷ S) u item v h =
-      cond-ind (λ (l : List Transaction). upto u l item v ≡ upto u (Z ∷ S) item v) (before Z T)
+      cond-ind (λ (l : List Transaction). upto u l item v ≡ upto u (Z ∷ S) item v) (precedes Z T)
       (λ _. upto-below S u item _ h) (λ _. ap (upto u (Z ∷ S) item) (step-late u T item v h))
 
   -- nothing of a record that it does not write
-  pub upto-absent : (S : List Transaction) (u item v : ℕ) → Absent item (T .writes) → upto u (placed T S) item v ≡ upto u S item v
-  unfolding placed upto
+  pub upto-absent : (S : List Transaction) (u item v : ℕ) → Absent item (T .writes) → upto u (ranked T S) item v ≡ upto u S item v
+  unfolding ranked upto
   upto-absent [] u item v a = step-absent u T item v a
   upto-absent (Z ∷ S) u item v a =
-      cond-ind (λ (l : List Transaction). upto u l item v ≡ upto u (Z ∷ S) item v) (before Z T)
+      cond-ind (λ (l : List Transaction). upto u l item v ≡ upto u (Z ∷ S) item v) (precedes Z T)
       (λ _. upto-absent S u item _ a) (λ _. ap (upto u (Z ∷ S) item) (step-absent u T item v a))
 
   -- where no later one writes the record, its effect comes last
   pub upto-above : (S : List Transaction) (u item v : ℕ) → T .key ≤ u → Sorted S → ((U : Transaction) → In U S → T .key < U .key → Absent item (U .writes)) →
-      upto u (placed T S) item v ≡ written (T .writes) item (upto u S item v)
-  unfolding placed upto Sorted
+      upto u (ranked T S) item v ≡ written (T .writes) item (upto u S item v)
+  unfolding ranked upto Sorted
   upto-above [] u item v h s q = step-up u T item v h
   upto-above (Z ∷ S) u item v h s q =
-      cond-ind (λ (l : List Transaction). upto u l item v ≡ written (T .writes) item (upto u (Z ∷ S) item v)) (before Z T)
+      cond-ind (λ (l : List Transaction). upto u l item v ≡ written (T .writes) item (upto u (Z ∷ S) item v)) (precedes Z T)
       (λ _. upto-above S u item _ h (s .1) (λ U i. q U (there i)))
       (λ a. ap (upto u (Z ∷ S) item) (step-up u T item v h)
-      ∙ upto-quiet u (Z ∷ S) item (written (T .writes) item v) (quiet (before-no Z T a))
-      ∙ ap (written (T .writes) item) (sym (upto-quiet u (Z ∷ S) item v (quiet (before-no Z T a)))))
+      ∙ upto-quiet u (Z ∷ S) item (written (T .writes) item v) (quiet (precedes-no Z T a))
+      ∙ ap (written (T .writes) item) (sym (upto-quiet u (Z ∷ S) item v (quiet (precedes-no Z T a)))))
     where
       quiet : T .key < Z .key → (U : Transaction) → In U (Z ∷ S) → Absent item (U .writes)
       quiet l U i = q U i (all-later (T .key) Z S s l U i)
@@ -140,22 +140,22 @@ unfolding Right
 right-same [] f g h t = tt
 right-same (U ∷ S) f g h t = (
   λ e i. cc (h U (here refl) e i, t .0 e i),
-  right-same S (after U f) (after U g) (λ Z j e i. ap (written (U .writes) (e .item)) (h Z (there j) e i)) (t .1),
+  right-same S (valuesAfter U f) (valuesAfter U g) (λ Z j e i. ap (written (U .writes) (e .item)) (h Z (there j) e i)) (t .1),
 )
 
--- T MAY BE PLACED: its reads are right at its key, and no later one reads what it writes
-pub right-placed : (T : Transaction) (S : List Transaction) (f : Values) → Sorted S →
+-- T MAY BE RANKED: its reads are right at its key, and no later one reads what it writes
+pub right-ranked : (T : Transaction) (S : List Transaction) (f : Values) → Sorted S →
     ((e : FirstRead) → In e (T .reads) → upto (T .key) S (e .item) (f (e .item)) ≡ e .value) →
     ((U : Transaction) → In U S → T .key < U .key → (e : FirstRead) → In e (U .reads) → Absent (e .item) (T .writes)) →
-    Right S f → Right (placed T S) f
-unfolding Right placed upto Sorted
-right-placed T [] f s h q t = (h, tt)
-right-placed T (Z ∷ S) f s h q t =
-    cond-ind (λ (l : List Transaction). Right l f) (before Z T)
-    (λ a. (t .0, right-placed T S (after Z f) (s .1) (λ e i. ap (upto (T .key) S (e .item)) (sym (step-up (T .key) Z (e .item) (f (e .item)) (before-yes Z T a))) ∙ h e i) (λ U i. q U (there i)) (t .1)))
+    Right S f → Right (ranked T S) f
+unfolding Right ranked upto Sorted
+right-ranked T [] f s h q t = (h, tt)
+right-ranked T (Z ∷ S) f s h q t =
+    cond-ind (λ (l : List Transaction). Right l f) (precedes Z T)
+    (λ a. (t .0, right-ranked T S (valuesAfter Z f) (s .1) (λ e i. ap (upto (T .key) S (e .item)) (sym (step-up (T .key) Z (e .item) (f (e .item)) (precedes-yes Z T a))) ∙ h e i) (λ U i. q U (there i)) (t .1)))
     (λ a. (
-      λ e i. sym (upto-late (T .key) (Z ∷ S) (e .item) (f (e .item)) (late (before-no Z T a))) ∙ h e i,
-      right-same (Z ∷ S) f (after T f) (λ U i e j. written-absent (T .writes) (e .item) (f (e .item)) (q U i (late (before-no Z T a) U i) e j)) t,
+      λ e i. sym (upto-late (T .key) (Z ∷ S) (e .item) (f (e .item)) (late (precedes-no Z T a))) ∙ h e i,
+      right-same (Z ∷ S) f (valuesAfter T f) (λ U i e j. written-absent (T .writes) (e .item) (f (e .item)) (q U i (late (precedes-no Z T a) U i) e j)) t,
     ))
   where
     late : T .key < Z .key → (U : Transaction) → In U (Z ∷ S) → T .key < U .key

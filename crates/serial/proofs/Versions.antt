@@ -25,7 +25,7 @@ stored t w x = record { value = applied w (x .value); wrote = t .time; from = t 
 module _ (opening : Values) (S : List Transaction) (item : ℕ) (x : Version) (h : VersionOk opening S item x) where
   -- with no store to come, the value is the run's from its own store on
   pub quiet : x .due ≡ none → (u : ℕ) → x .from ≤ u → val opening S item u ≡ x .value
-  quiet q u p = h .now u (rw q p) ∙ rw q refl
+  quiet q u p = h .from-due u (rw q p) ∙ rw q refl
 
   pub holder-ok : (o : Option ℕ) → x .due ≡ none → VersionOk opening S item (withHolder o x)
   holder-ok o q =
@@ -34,8 +34,8 @@ module _ (opening : Values) (S : List Transaction) (item : ℕ) (x : Version) (h
         wrote-low = h .wrote-low;
         due-below = λ d e. absurd (none-some (x .due) d q e);
         due-held = λ p. q;
-        kept = h .kept;
-        now = h .now;
+        up-to-due = h .up-to-due;
+        from-due = h .from-due;
         readers = h .readers;
         writers = h .writers;
       }
@@ -55,8 +55,8 @@ module _ (opening : Values) (S : List Transaction) (item : ℕ) (x : Version) (h
           wrote-low = let l = h .wrote-low in omega arith;
           due-below = λ d e. absurd (none-some (x .due) d idle e);
           due-held = h .due-held;
-          kept = h .kept;
-          now = h .now;
+          up-to-due = h .up-to-due;
+          from-due = h .from-due;
           readers = λ T i e j q. up (h .readers T i e j q);
           writers = λ T i w j q. up (h .writers T i w j q);
         }
@@ -76,14 +76,14 @@ module _ (opening : Values) (S : List Transaction) (item : ℕ) (x : Version) (h
           wrote-low = omega arith;
           due-below = λ d e. absurd (none-some {A = Due} none d refl e);
           due-held = λ p. refl;
-          kept = λ u p q. last u p;
-          now = last;
+          up-to-due = λ u p q. last u p;
+          from-due = last;
           readers = λ T i e j q. rw due at (h .readers T i e j q);
           writers = λ T i v j q. rw due at (h .writers T i v j q);
         }
       where
         last : (u : ℕ) → t .key ≤ u → val opening S item u ≡ applied w (x .value)
-        last u p = h .now u (rw due p) ∙ rw due refl
+        last u p = h .from-due u (rw due p) ∙ rw due refl
 
     pub stored-grows : Grows opening S S item x (stored t w x)
     stored-grows =

@@ -7,13 +7,13 @@ use native.Mathlib.Omega.{arith}
 use lib.ListN.{getD}
 use Rattle.rules.specs.Layout.{mostReads, readsAt, timeAt, readItemAt, readValueAt, keptWriteAt, keptReadAt}
 use Rattle.rules.specs.Layout.{phase, position, reads, writes, time, readItem, readValue, keptWrite, keptRead}
-use Rattle.rows.specs.Changed.{Nudged, Noted}
+use Rattle.rows.specs.Changed.{Nudged, WithRead}
 use Rattle.observer.specs.Observer.{WriteEntry}
 use Rattle.observer.proofs.Segments.{seg, seg-ext, seg-more, seg-map}
 use Rattle.observer.proofs.Entries.{writeAt, firstReads, writeEntries, nudged-reads, nudged-writes, nudged-write}
 use Rattle.observer.proofs.Folds.{SameFront}
 use Rattle.serial.proofs.Protocol.{ReadEntry, Seat, free, working, checking, storing}
-use Rattle.serial.proofs.Seal.{told}
+use Rattle.serial.proofs.Seal.{firstReadOf}
 
 -- ENTRIES
 abbrev pub entryAt : List ℕ → ℕ → ReadEntry
@@ -24,9 +24,9 @@ entryAt g i =
 abbrev pub readEntries : List ℕ → List ReadEntry
 readEntries g = seg (entryAt g) 0 (reads g)
 
--- what their readers were told is what the observer sees
-pub told-entries : (g : List ℕ) → map told (readEntries g) ≡ firstReads g
-told-entries g = seg-map told (entryAt g) (reads g) 0
+-- what their readers were firstReadOf is what the observer sees
+pub first-reads-are : (g : List ℕ) → map firstReadOf (readEntries g) ≡ firstReads g
+first-reads-are g = seg-map firstReadOf (entryAt g) (reads g) 0
 
 -- THE SEAT, by phase, position, reads, writes, time and the entries; n is its key
 unfoldable pub seatOf : (n ph p r w t : ℕ) → (ℕ → ReadEntry) → (ℕ → WriteEntry) → Seat
@@ -76,11 +76,11 @@ module _ {g h : List ℕ} {ph p t : ℕ} (n : Nudged g h ph p t) where
       at : (f : ℕ) → timeAt < f → getD h f 0 ≡ getD g f 0
       at f l = n .rest f (omega arith) (omega arith) (omega arith)
 
-  pub nudged-view : (k : ℕ) → view k h ≡ seatOf k ph p (reads g) (writes g) t (entryAt g) (writeAt g)
-  nudged-view k = λ z. seatOf k (n .is-phase z) (n .is-position z) (nudged-reads n z) (nudged-writes n z) (n .is-time z) (nudged-read z) (nudged-write n z)
+  pub nudged-view : (key : ℕ) → view key h ≡ seatOf key ph p (reads g) (writes g) t (entryAt g) (writeAt g)
+  nudged-view key = λ z. seatOf key (n .is-phase z) (n .is-position z) (nudged-reads n z) (nudged-writes n z) (n .is-time z) (nudged-read z) (nudged-write n z)
 
 -- A ROW WITH A NEW READ ENTRY has that after the others
-module _ {g h : List ℕ} {item value wrote upTo : ℕ} (n : Noted g h item value wrote upTo) (room : reads g < mostReads) where
+module _ {g h : List ℕ} {item value wrote upTo : ℕ} (n : WithRead g h item value wrote upTo) (few : reads g < mostReads) where
   noted-read : (i : ℕ) → i < reads g → entryAt h i ≡ entryAt g i
   noted-read i l = entry-same g h i (n .before (readItemAt i) (omega arith) (omega arith)) (n .before (readValueAt i) (omega arith) (omega arith)) (n .before (keptWriteAt i) (omega arith) (omega arith)) (n .before (keptReadAt i) (omega arith) (omega arith))
 
@@ -93,9 +93,9 @@ module _ {g h : List ℕ} {item value wrote upTo : ℕ} (n : Noted g h item valu
 
 -- A ROW WITH THE SAME FRONT has its read entries
 pub front-entries : (g h : List ℕ) → SameFront g h → reads g ≤ mostReads → readEntries h ≡ readEntries g
-front-entries g h s few =
-    ap (seg (entryAt h) 0) (s readsAt (omega arith) (omega arith))
+front-entries g h same few =
+    ap (seg (entryAt h) 0) (same readsAt (omega arith) (omega arith))
     ∙ seg-ext (entryAt h) (entryAt g) (reads g) 0
     (λ i _ l. entry-same g h i
-    (s (readItemAt i) (omega arith) (omega arith)) (s (readValueAt i) (omega arith) (omega arith))
-    (s (keptWriteAt i) (omega arith) (omega arith)) (s (keptReadAt i) (omega arith) (omega arith)))
+    (same (readItemAt i) (omega arith) (omega arith)) (same (readValueAt i) (omega arith) (omega arith))
+    (same (keptWriteAt i) (omega arith) (omega arith)) (same (keptReadAt i) (omega arith) (omega arith)))

@@ -17,7 +17,7 @@ use Rattle.rules.specs.Work.{readOf, writeOf, above, placeOf, readNoted, firstR
 use Rattle.rules.specs.Calls.{Open, Read, Write}
 use Rattle.rules.specs.declared.Answer.the-variants.{Value, Noted}
 use Rattle.rows.specs.Search.{first-hit, first-le}
-use Rattle.rows.specs.Fine.{cond-ind, first-none, Sized, sized-of, placed-one, Fine, fine, fine-row}
+use Rattle.rows.specs.Fine.{cond-ind, first-none, Sized, sized-of, position-one, Fine, fine, fine-row}
 use Rattle.rows.specs.FreeSeat.{seat-found}
 use Rattle.rows.specs.Changed.{openedRow, notedRow, noted-row, placedRow, placed-row}
 use Rattle.rows.specs.Becomes.{Becomes, becomes-put, becomes-opened, becomes-noted, becomes-placed}
@@ -30,145 +30,145 @@ use Rattle.serial.specs.Statement.{Values}
 use Rattle.serial.proofs.Protocol.{working}
 use Rattle.serial.proofs.Steps.{reseat, entryOf, opens, reads as step-reads, rests}
 use Rattle.serial.proofs.View.{readEntries, seatOf, view-working, noted-readEntries, front-entries}
-use Rattle.serial.proofs.Agree.{Shown, SeenOk, Good, Ok, refused, unless-ok, agree-seeing}
+use Rattle.serial.proofs.Agree.{WordShows, SeenOk, Mirrored, StaysMirrored, refused, unless-ok, agree-seeing}
 
 -- a row in phase 1 has neither key nor stores to come
 seen-working : (g : List ℕ) (x : Seen) → phase g ≡ 1 → Shows g x → SeenOk g x
 seen-working g x one z = record { shows = z; is-left = λ e. absurd (omega arith) }
 
-module _ (opening : Values) (t : Tables) (b : Observer) (g : Good opening t b) where
+module _ (opening : Values) (t : Tables) (b : Observer) (now : Mirrored opening t b) where
   -- OPEN: the lowest free seat is free
-  opened-good : (k o : ℕ) → Sized t → k < seatCount → phase (row (t .seats) k) ≡ 0 → Good opening (tables (t .values) (t .words) (opened (t .seats) k o)) (seeing b k (givenTo o))
+  opened-mirrored : (s o : ℕ) → Sized t → s < seatCount → phase (row (t .seats) s) ≡ 0 → Mirrored opening (tables (t .values) (t .words) (opened (t .seats) s o)) (seeing b s (givenTo o))
   unfolding seatOf seg
-  opened-good k o z l e =
+  opened-mirrored s o z l e =
       record {
-        σ = reseat (g .σ) k (working [] []);
-        inv = opens opening (g .σ) (g .inv) k (g .agree .rows k ∙ rw e);
-        agree = agree-seeing (g .agree) (tables (t .values) (t .words) (opened (t .seats) k o)) (g .σ .version) k (working [] []) (openedRow o) refl refl (g .agree .shown)
-            (becomes-opened (t .seats) k o (length-row (t .seats) k (z .rows) l)) (givenTo o) refl
+        σ = reseat (now .σ) s (working [] []);
+        inv = opens opening (now .σ) (now .inv) s (now .agree .rows s ∙ rw e);
+        agree = agree-seeing (now .agree) (tables (t .values) (t .words) (opened (t .seats) s o)) (now .σ .version) s (working [] []) (openedRow o) refl refl (now .agree .shown)
+            (becomes-opened (t .seats) s o (length-row (t .seats) s (z .rows) l)) (givenTo o) refl
             (λ _. seen-working (openedRow o) (givenTo o) refl (record { is-reads = refl; is-writes = refl }));
       }
 
-  pub open-ok : (o : ℕ) → Ok opening b (Open o) (openSeat t o)
+  pub open-ok : (o : ℕ) → StaysMirrored opening b (Open o) (openSeat t o)
   unfolding openSeat openRefusal freeSeat isFree observe
   open-ok o =
-      unless-ok opening t b g (Open o) (openRefusal t o) _
-      (λ e. let l = seat-found t o e in opened-good (freeSeat (t .seats)) o (sized-of t (first-none 0 _ e .0)) l (eqb-true _ _ (first-hit (isFree (t .seats)) seatCount l)))
+      unless-ok opening t b now (Open o) (openRefusal t o) _
+      (λ e. let l = seat-found t o e in opened-mirrored (freeSeat (t .seats)) o (sized-of t (first-none 0 _ e .0)) l (eqb-true _ _ (first-hit (isFree (t .seats)) seatCount l)))
 
 -- READ AND WRITE, not refused before 6
-module _ (opening : Values) (t : Tables) (b : Observer) (g : Good opening t b) (o k item : ℕ) (fi : Fine t o k item 1) where
-  abbrev gr : List ℕ
-  gr = row (t .seats) k
+module _ (opening : Values) (t : Tables) (b : Observer) (now : Mirrored opening t b) (o s item : ℕ) (fi : Fine t o s item 1) where
+  abbrev g : List ℕ
+  g = row (t .seats) s
 
-  one : phase gr ≡ 1
+  one : phase g ≡ 1
   one = let p = fi .phase-in in let q = fi .used in omega arith
 
-  size : length gr ≡ rowWidth
+  size : length g ≡ rowWidth
   size = fine-row fi
 
-  at-start : position gr ≡ 0
-  at-start = placed-one gr (length (t .words)) (fi .sound) one
+  at-start : position g ≡ 0
+  at-start = position-one g (length (t .words)) (fi .sound) one
 
-  is-working : g .σ .seat k ≡ working (readEntries gr) []
-  is-working = g .agree .rows k ∙ view-working (b .seats k .key) gr one at-start
+  is-working : now .σ .seat s ≡ working (readEntries g) []
+  is-working = now .agree .rows s ∙ view-working (b .seats s .key) g one at-start
 
-  seen : SeenOk gr (b .seats k)
-  seen = g .agree .seen k (fi .used)
+  seen : SeenOk g (b .seats s)
+  seen = now .agree .seen s (fi .used)
 
   -- the observer knows the records that the row names
-  known : isKnown (b .seats k) item ≡ (ltb (writeOf gr item) (writes gr) || ltb (readOf gr item) (reads gr))
-  known = sees-known gr (b .seats k) (seen .shows) item
+  known : isKnown (b .seats s) item ≡ (ltb (writeOf g item) (writes g) || ltb (readOf g item) (reads g))
+  known = sees-known g (b .seats s) (seen .shows) item
 
   -- READ of a record that is written or read before: nothing new is seen
-  seen-before : (v : ℕ) → isKnown (b .seats k) item ≡ true → Good opening t (seeing b k (onRead (b .seats k) item (Value v)))
-  seen-before v e = rw (seeing-same b k _ (read-known gr (b .seats k) (seen .shows) item v e)) g
+  seen-before : (v : ℕ) → isKnown (b .seats s) item ≡ true → Mirrored opening t (seeing b s (onRead (b .seats s) item (Value v)))
+  seen-before v e = rw (seeing-same b s _ (read-known g (b .seats s) (seen .shows) item v e)) now
 
   -- READ of another, with room for an entry
-  noted-good : isKnown (b .seats k) item ≡ false → reads gr < mostReads →
+  noted-mirrored : isKnown (b .seats s) item ≡ false → reads g < mostReads →
       let v = getD (t .values) item 0 in
-      Good opening (tables (t .values) (t .words) (readNoted (t .seats) k item v (getD (t .words) item 0))) (seeing b k (onRead (b .seats k) item (Value v)))
-  noted-good unknown few =
+      Mirrored opening (tables (t .values) (t .words) (readNoted (t .seats) s item v (getD (t .words) item 0))) (seeing b s (onRead (b .seats s) item (Value v)))
+  noted-mirrored unknown few =
       let v = getD (t .values) item 0 in
       let word = getD (t .words) item 0 in
-      let h = notedRow gr item v (writeTime word) (readTime word) in
-      let n = noted-row gr item v (writeTime word) (readTime word) size (omega arith) in
-      let m : Shown (g .σ .version item) v word = g .agree .shown item (fi .item-in) in
-      let x : Seen = onRead (b .seats k) item (Value v) in
+      let h = notedRow g item v (writeTime word) (readTime word) in
+      let n = noted-row g item v (writeTime word) (readTime word) size (omega arith) in
+      let m : WordShows (now .σ .version item) v word = now .agree .shown item (fi .item-in) in
+      let x : Seen = onRead (b .seats s) item (Value v) in
       let ph : phase h ≡ 1 = n .before phaseAt (omega arith) (omega arith) ∙ one in
       let po : position h ≡ 0 = n .before positionAt (omega arith) (omega arith) ∙ at-start in
       record {
-        σ = reseat (g .σ) k (working (readEntries gr ++ (entryOf item (g .σ .version item) ∷ [])) []);
-        inv = step-reads opening (g .σ) (g .inv) k (readEntries gr) [] item is-working;
-        agree = agree-seeing (g .agree) (tables (t .values) (t .words) (readNoted (t .seats) k item v word)) (g .σ .version) k _ h refl refl (g .agree .shown)
-            (becomes-noted (t .seats) k item v word (omega arith)) x
-            ((λ i. working (readEntries gr ++ (record { told = record { item = item; value = m .is-value i }; wrote = m .is-wrote i; upTo = m .is-upTo i } ∷ [])) [])
+        σ = reseat (now .σ) s (working (readEntries g ++ (entryOf item (now .σ .version item) ∷ [])) []);
+        inv = step-reads opening (now .σ) (now .inv) s (readEntries g) [] item is-working;
+        agree = agree-seeing (now .agree) (tables (t .values) (t .words) (readNoted (t .seats) s item v word)) (now .σ .version) s _ h refl refl (now .agree .shown)
+            (becomes-noted (t .seats) s item v word (omega arith)) x
+            ((λ i. working (readEntries g ++ (record { told = record { item = item; value = m .is-value i }; wrote = m .is-wrote i; upTo = m .is-upTo i } ∷ [])) [])
             ∙ (λ i. working (sym (noted-readEntries n few) i) [])
             ∙ sym (view-working (x .key) h ph po))
-            (λ _. seen-working h x ph (read-shows gr (b .seats k) (seen .shows) item h v (writeTime word) (readTime word) n few unknown));
+            (λ _. seen-working h x ph (read-shows g (b .seats s) (seen .shows) item h v (writeTime word) (readTime word) n few unknown));
       }
 
-  first-ok : isKnown (b .seats k) item ≡ false → Ok opening b (Read o k item) (firstRead t k item)
+  first-ok : isKnown (b .seats s) item ≡ false → StaysMirrored opening b (Read o s item) (firstRead t s item)
   unfolding firstRead observe
   first-ok unknown =
-      cond-ind (Ok opening b (Read o k item)) (leb mostReads (reads gr)) (λ _. refused opening t b g (Read o k item) 8)
-      (λ few. cond-ind (Ok opening b (Read o k item)) (isLocked (getD (t .words) item 0)) (λ _. refused opening t b g (Read o k item) 10)
-      (λ _. noted-good unknown (leb-false mostReads (reads gr) few)))
+      cond-ind (StaysMirrored opening b (Read o s item)) (leb mostReads (reads g)) (λ _. refused opening t b now (Read o s item) 8)
+      (λ few. cond-ind (StaysMirrored opening b (Read o s item)) (isLocked (getD (t .words) item 0)) (λ _. refused opening t b now (Read o s item) 10)
+      (λ _. noted-mirrored unknown (leb-false mostReads (reads g) few)))
 
-  pub read-in-ok : Ok opening b (Read o k item) (readIn t k item)
+  pub read-in-ok : StaysMirrored opening b (Read o s item) (readIn t s item)
   unfolding readIn observe
   read-in-ok =
-      cond-ind (Ok opening b (Read o k item)) (ltb (writeOf gr item) (writes gr))
+      cond-ind (StaysMirrored opening b (Read o s item)) (ltb (writeOf g item) (writes g))
       (λ a. seen-before _ (known ∙ rw a))
-      (λ a. cond-ind (Ok opening b (Read o k item)) (ltb (readOf gr item) (reads gr)) (λ c. seen-before _ (known ∙ rw (a, c))) (λ c. first-ok (known ∙ rw (a, c))))
+      (λ a. cond-ind (StaysMirrored opening b (Read o s item)) (ltb (readOf g item) (reads g)) (λ c. seen-before _ (known ∙ rw (a, c))) (λ c. first-ok (known ∙ rw (a, c))))
 
   -- WRITE: the row's write entries change, and its reads do not
-  written-good : (v : ℕ) (l h : List ℕ) → Becomes (t .seats) l k h → SameFront gr h → Shows h (onWrite (b .seats k) item v (Noted item)) →
-      Good opening (tables (t .values) (t .words) l) (seeing b k (onWrite (b .seats k) item v (Noted item)))
-  written-good v l h be front z =
-      let same = front-entries gr h front (fi .sound .reads-in) in
-      let x = onWrite (b .seats k) item v (Noted item) in
+  written-mirrored : (v : ℕ) (l h : List ℕ) → Becomes (t .seats) l s h → SameFront g h → Shows h (onWrite (b .seats s) item v (Noted item)) →
+      Mirrored opening (tables (t .values) (t .words) l) (seeing b s (onWrite (b .seats s) item v (Noted item)))
+  written-mirrored v l h be front z =
+      let same = front-entries g h front (fi .sound .reads-in) in
+      let x = onWrite (b .seats s) item v (Noted item) in
       let ph : phase h ≡ 1 = front phaseAt (omega arith) (omega arith) ∙ one in
       let po : position h ≡ 0 = front positionAt (omega arith) (omega arith) ∙ at-start in
       record {
-        σ = reseat (g .σ) k (g .σ .seat k);
-        inv = rests opening (g .σ) (g .inv) k;
-        agree = agree-seeing (g .agree) (tables (t .values) (t .words) l) (g .σ .version) k (g .σ .seat k) h refl refl (g .agree .shown) be x
+        σ = reseat (now .σ) s (now .σ .seat s);
+        inv = rests opening (now .σ) (now .inv) s;
+        agree = agree-seeing (now .agree) (tables (t .values) (t .words) l) (now .σ .version) s (now .σ .seat s) h refl refl (now .agree .shown) be x
             (is-working ∙ (λ i. working (sym same i) []) ∙ sym (view-working (x .key) h ph po))
             (λ _. seen-working h x ph z);
       }
 
   module _ (v : ℕ) where
     abbrev after : Observer
-    after = seeing b k (onWrite (b .seats k) item v (Noted item))
+    after = seeing b s (onWrite (b .seats s) item v (Noted item))
 
-    renewed-good : ltb (writeOf gr item) (writes gr) ≡ true →
-        Good opening (tables (t .values) (t .words) (put (t .seats) k (writeValueAt (writeOf gr item)) v)) after
-    renewed-good a =
+    renewed-mirrored : ltb (writeOf g item) (writes g) ≡ true →
+        Mirrored opening (tables (t .values) (t .words) (put (t .seats) s (writeValueAt (writeOf g item)) v)) after
+    renewed-mirrored a =
         let few = fi .sound .writes-in in
-        let found : writeOf gr item < writes gr = ltb-true _ _ a in
-        written-good v _ _ (becomes-put (t .seats) k (writeValueAt (writeOf gr item)) v (omega arith)) (renewed-front gr item v size few found)
-        (renewed-shows gr (b .seats k) (seen .shows) item v size (fi .sound .reads-in) few a)
+        let found : writeOf g item < writes g = ltb-true _ _ a in
+        written-mirrored v _ _ (becomes-put (t .seats) s (writeValueAt (writeOf g item)) v (omega arith)) (renewed-front g item v size few found)
+        (renewed-shows g (b .seats s) (seen .shows) item v size (fi .sound .reads-in) few a)
 
-    inserted-good : ltb (writeOf gr item) (writes gr) ≡ false → writes gr < mostWrites →
-        Good opening (tables (t .values) (t .words) (placed (t .seats) k (placeOf gr item) item v)) after
-    inserted-good a few =
-        let low : placeOf gr item ≤ writes gr = (unfold placeOf in first-le (above gr item) (writes gr)) in
-        let p = placed-row gr (placeOf gr item) item v size low (omega arith) in
-        let h = placedRow gr (placeOf gr item) item v in
-        written-good v _ h (becomes-placed (t .seats) k (placeOf gr item) item v low (omega arith)) (placed-front gr h item v p)
-        (placed-shows gr (b .seats k) (seen .shows) item h v p (fi .sound .reads-in) a)
+    inserted-mirrored : ltb (writeOf g item) (writes g) ≡ false → writes g < mostWrites →
+        Mirrored opening (tables (t .values) (t .words) (placed (t .seats) s (placeOf g item) item v)) after
+    inserted-mirrored a few =
+        let low : placeOf g item ≤ writes g = (unfold placeOf in first-le (above g item) (writes g)) in
+        let p = placed-row g (placeOf g item) item v size low (omega arith) in
+        let h = placedRow g (placeOf g item) item v in
+        written-mirrored v _ h (becomes-placed (t .seats) s (placeOf g item) item v low (omega arith)) (placed-front g h item v p)
+        (placed-shows g (b .seats s) (seen .shows) item h v p (fi .sound .reads-in) a)
 
-    pub write-in-ok : Ok opening b (Write o k item v) (writeIn t k item v)
+    pub write-in-ok : StaysMirrored opening b (Write o s item v) (writeIn t s item v)
     unfolding writeIn observe
     write-in-ok =
-        cond-ind (Ok opening b (Write o k item v)) (ltb (writeOf gr item) (writes gr)) (λ a. renewed-good a)
-        (λ a. cond-ind (Ok opening b (Write o k item v)) (leb mostWrites (writes gr)) (λ _. refused opening t b g (Write o k item v) 9) (λ c. inserted-good a (leb-false mostWrites (writes gr) c)))
+        cond-ind (StaysMirrored opening b (Write o s item v)) (ltb (writeOf g item) (writes g)) (λ a. renewed-mirrored a)
+        (λ a. cond-ind (StaysMirrored opening b (Write o s item v)) (leb mostWrites (writes g)) (λ _. refused opening t b now (Write o s item v) 9) (λ c. inserted-mirrored a (leb-false mostWrites (writes g) c)))
 
-module _ (opening : Values) (t : Tables) (b : Observer) (g : Good opening t b) where
-  pub read-ok : (o k item : ℕ) → Ok opening b (Read o k item) (read t o k item)
+module _ (opening : Values) (t : Tables) (b : Observer) (now : Mirrored opening t b) where
+  pub read-ok : (o s item : ℕ) → StaysMirrored opening b (Read o s item) (read t o s item)
   unfolding read
-  read-ok o k item = unless-ok opening t b g (Read o k item) (refusal t o k item 1) _ (λ e. read-in-ok opening t b g o k item (fine t o k item 1 e))
+  read-ok o s item = unless-ok opening t b now (Read o s item) (refusal t o s item 1) _ (λ e. read-in-ok opening t b now o s item (fine t o s item 1 e))
 
-  pub write-ok : (o k item v : ℕ) → Ok opening b (Write o k item v) (write t o k item v)
+  pub write-ok : (o s item v : ℕ) → StaysMirrored opening b (Write o s item v) (write t o s item v)
   unfolding write
-  write-ok o k item v = unless-ok opening t b g (Write o k item v) (refusal t o k item 1) _ (λ e. write-in-ok opening t b g o k item (fine t o k item 1 e) v)
+  write-ok o s item v = unless-ok opening t b now (Write o s item v) (refusal t o s item 1) _ (λ e. write-in-ok opening t b now o s item (fine t o s item 1 e) v)

@@ -17,21 +17,21 @@ use Rattle.observer.specs.Observer.{FirstRead, WriteEntry, Transaction, Observe
 
 -- 1. THE ORDER: by key, equal keys by order of sealing. (Order proves that it is that.)
 -- U, sealed before T, comes before T too: its key is not greater
-unfoldable pub before : Transaction → Transaction → Bool
-before U T = leb (U .key) (T .key)
+unfoldable pub precedes : Transaction → Transaction → Bool
+precedes U T = leb (U .key) (T .key)
 
 -- T, sealed after all of these, takes its place among them
-unfoldable pub placed : Transaction → List Transaction → List Transaction
-placed T [] = T ∷ []
-placed T (U ∷ S) = cond (before U T) (U ∷ placed T S) (T ∷ U ∷ S)
+unfoldable pub ranked : Transaction → List Transaction → List Transaction
+ranked T [] = T ∷ []
+ranked T (U ∷ S) = cond (precedes U T) (U ∷ ranked T S) (T ∷ U ∷ S)
 
 -- each of a list takes its place, one after another
-unfoldable pub allPlaced : List Transaction → List Transaction → List Transaction
-allPlaced S [] = S
-allPlaced S (T ∷ Ts) = allPlaced (placed T S) Ts
+unfoldable pub allRanked : List Transaction → List Transaction → List Transaction
+allRanked S [] = S
+allRanked S (T ∷ Ts) = allRanked (ranked T S) Ts
 
 abbrev pub serial : List Transaction → List Transaction
-serial S = allPlaced [] S
+serial S = allRanked [] S
 
 -- 2. THE SERIAL RUN
 abbrev pub Values : Type 0
@@ -46,17 +46,17 @@ written [] item v = v
 written (w ∷ ws) item v = written ws item (cond (eqb (w .item) item) (applied w v) v)
 
 -- the values after a transaction, and after several, one after another
-abbrev pub after : Transaction → Values → Values
-after T f item = written (T .writes) item (f item)
+abbrev pub valuesAfter : Transaction → Values → Values
+valuesAfter T f item = written (T .writes) item (f item)
 
-unfoldable pub outcome : List Transaction → Values → Values
-outcome [] f = f
-outcome (T ∷ S) f = outcome S (after T f)
+unfoldable pub valuesAfterAll : List Transaction → Values → Values
+valuesAfterAll [] f = f
+valuesAfterAll (T ∷ S) f = valuesAfterAll S (valuesAfter T f)
 
 -- each in turn reads, before its own writes, what its reader was told
 unfoldable pub Right : List Transaction → Values → Type 0
 Right [] f = Unit {0}
-Right (T ∷ S) f = ((e : FirstRead) → In e (T .reads) → f (e .item) ≡ e .value) × Right S (after T f)
+Right (T ∷ S) f = ((e : FirstRead) → In e (T .reads) → f (e .item) ≡ e .value) × Right S (valuesAfter T f)
 
 -- 3. THE PROMISE
 -- no sealed transaction has a store left
@@ -71,7 +71,7 @@ pub record Serializable (opening : Values) (b : Observer) (t : Tables) : Type 0 
   -- every first read of every sealed transaction has, in the serial run, the value that its reader was told
   pub right : Right (serial (b .sealed)) opening
   -- once all is stored, the table has the final values of the serial run
-  pub final : AllStored b → (item : ℕ) → item < length (t .values) → outcome (serial (b .sealed)) opening item ≡ getD (t .values) item 0
+  pub final : AllStored b → (item : ℕ) → item < length (t .values) → valuesAfterAll (serial (b .sealed)) opening item ≡ getD (t .values) item 0
   -- what the order goes by is the commit time
   pub by-time : (T : Transaction) → In T (b .sealed) → T .key ≡ T .time
 

@@ -61,16 +61,16 @@ unfoldable pub locks : List ℕ → ℕ → Bool
 locks g item = named (writeItem g) (lockFrom g) (lockTo g) item
 
 -- how many Advances a row has had, by its phase
-unfoldable pub passes : List ℕ → ℕ
-passes g =
+unfoldable pub stepsTaken : List ℕ → ℕ
+stepsTaken g =
     cond (leb (phase g) 2) (position g)
     (cond (eqb (phase g) 3) (writes g + 1 + position g) (writes g + reads g + 2 + position g))
 
 -- the plan, and the seats held under it
-pub record Books (seats : List ℕ) : Type 0 where
+pub record WithinPlan (seats : List ℕ) : Type 0 where
   pub plan : badPlan seats ≡ false
   pub limits : (o : ℕ) → o < owners → held seats o ≤ limit seats o
-  pub room : claims seats ≤ seatCount
+  pub claims-fit : claims seats ≤ seatCount
 
 abbrev pub lockBit : List ℕ → ℕ → ℕ
 lockBit words item = one (isLocked (getD words item 0))
@@ -82,7 +82,7 @@ holders seats item = count (λ s. locks (row seats s) item) seatCount
 pub record InOrder (t : Tables) : Type 0 where
   pub sized : Sized t
   pub rows : (s : ℕ) → s < seatCount → Row (length (t .words)) (row (t .seats) s)
-  pub books : Books (t .seats)
+  pub within : WithinPlan (t .seats)
   -- one seat holds a locked record, and none an unlocked one
   pub held-once : (item : ℕ) → item < length (t .words) → holders (t .seats) item ≡ lockBit (t .words) item
   pub timely : (item : ℕ) → item < length (t .words) → readTime (getD (t .words) item 0) ≤ top

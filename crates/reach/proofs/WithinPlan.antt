@@ -17,7 +17,7 @@ use Rattle.rows.specs.Sums.{sum-mono}
 use Rattle.rows.specs.Becomes.{Becomes}
 use Rattle.reach.proofs.Tests.{by, all-none}
 use Rattle.reach.proofs.Count.{one, one-le, sum-same, sum-change, count-change}
-use Rattle.reach.proofs.Order.{Books}
+use Rattle.reach.proofs.InOrder.{WithinPlan}
 
 -- a plan that Setup takes
 pub record Planned (l : List ℕ) : Type 0 where
@@ -93,14 +93,14 @@ module _ {s : ℕ} {l m h : List ℕ} (c : Becomes l m s h) (low : s < seatCount
       omega arith
 
   -- nobody holds the row who did not
-  pub books-less : ((o : ℕ) → one (heldBy h o) ≤ one (heldBy (row l s) o)) → Books l → Books m
+  pub within-less : ((o : ℕ) → one (heldBy h o) ≤ one (heldBy (row l s) o)) → WithinPlan l → WithinPlan m
   unfolding claims claim
-  books-less less b =
+  within-less less b =
       let fewer : (o : ℕ) → held m o ≤ held l o = (λ o. let e = held-change o in let k = less o in omega arith) in
       record {
         plan = plan-same l m (c .plan) (b .plan);
         limits = λ o k. let a = fewer o in let q = b .limits o k in let e = limit-same l m (c .plan) o k in omega arith;
-        room = let r = b .room in
+        claims-fit = let r = b .claims-fit in
             let k : sumTo (claim m) owners ≤ sumTo (claim l) owners =
             sum-mono (claim m) (claim l) owners (λ o k. let a = fewer o in let e = share-same l m (c .plan) o k in omega arith) in
             omega arith;
@@ -123,10 +123,10 @@ module _ {s : ℕ} {l m h : List ℕ} (c : Becomes l m s h) (low : s < seatCount
         omega arith
 
   -- given below its limit, within its share or while there is room
-  pub books-open : (o : ℕ) → o < owners → phase (row l s) ≡ 0 → phase h ≢ 0 → owner h ≡ o → held l o < limit l o →
-      (share l o ≤ held l o → claims l ≢ seatCount) → Books l → Books m
+  pub within-open : (o : ℕ) → o < owners → phase (row l s) ≡ 0 → phase h ≢ 0 → owner h ≡ o → held l o < limit l o →
+      (share l o ≤ held l o → claims l ≢ seatCount) → WithinPlan l → WithinPlan m
   unfolding claims claim
-  books-open o small free used own below fair b =
+  within-open o small free used own below fair b =
       let more = held-more o free used own in
       let rest = held-rest o free used own in
       let sh = share-same l m (c .plan) in
@@ -142,8 +142,8 @@ module _ {s : ℕ} {l m h : List ℕ} (c : Becomes l m s h) (low : s < seatCount
             let a′ : held l w ≡ held l o = ap (held l) y in
             let a″ : limit l w ≡ limit l o = ap (limit l) y in omega arith)
             (λ z. let a = rest w (eqb-false w o z) in omega arith);
-        room =
-            let r = b .room in
+        claims-fit =
+            let r = b .claims-fit in
             let e = sh o small in
             by (leb (share l o) (held l o))
             (λ z. let a = leb-true (share l o) (held l o) z in let f : sumTo (claim l) owners ≢ seatCount = fair a in omega arith)
