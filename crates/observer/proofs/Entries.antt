@@ -4,7 +4,8 @@ use mathlib.Core.Path.{_≡_, ap, _∙_, fun-ext}
 use mathlib.Core.List.{List, [], _∷_, _++_}
 use native.Mathlib.Omega.{arith}
 use lib.ListN.{getD}
-use Rattle.rules.specs.Layout.{mostReads, readsAt, writesAt, timeAt, readItemAt, readValueAt, writeItemAt, writeValueAt, reads, writes, readItem, readValue, writeItem, writeValue}
+use Rattle.rules.specs.Layout.{mostReads, readsAt, writesAt, timeAt, readItemAt, readValueAt, writeItemAt, writeValueAt, reads, writes}
+use Rattle.rules.specs.Layout.{readItem, readValue, writeItem, writeValue}
 use Rattle.rows.specs.Changed.{Nudged, WithRead}
 use Rattle.observer.specs.Observer.{FirstRead, WriteEntry}
 use Rattle.observer.proofs.Segments.{seg, seg-ext, seg-more}
@@ -65,7 +66,8 @@ module _ {g h : List ℕ} {item value wrote upTo : ℕ} (n : WithRead g h item v
   noted-firstReads =
       ap (seg (readAt h) 0) (n .count)
       ∙ seg-more (readAt h) (reads g)
-      ∙ (λ z. seg-ext (readAt h) (readAt g) (reads g) 0 (λ i _ l. noted-read i (omega arith)) z ++ (record { item = n .has-item z; value = n .has-value z } ∷ []))
+      ∙ (λ z. seg-ext (readAt h) (readAt g) (reads g) 0 (λ i _ l. noted-read i (omega arith)) z
+      ++ (record { item = n .has-item z; value = n .has-value z } ∷ []))
 
   pub noted-writeEntries : writeEntries h ≡ writeEntries g
   noted-writeEntries = λ z. seg (noted-write z) 0 (n .before writesAt (omega arith) (omega arith) z)

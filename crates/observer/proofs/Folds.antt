@@ -10,7 +10,8 @@ use lib.Dec.{eqb, ltb}
 use lib.ListN.{length, getD, set}
 use lib.Seq.{getD-set-same, getD-set-other}
 use Rattle.rules.specs.Tests.{scan}
-use Rattle.rules.specs.Layout.{rowWidth, writeWidth, mostReads, mostWrites, readsAt, writesAt, readItemAt, readValueAt, writesFrom, writeItemAt, writeValueAt, reads, writes}
+use Rattle.rules.specs.Layout.{rowWidth, writeWidth, mostReads, mostWrites, readsAt, writesAt, readItemAt, readValueAt, writesFrom}
+use Rattle.rules.specs.Layout.{writeItemAt, writeValueAt, reads, writes}
 use Rattle.rules.specs.Work.{writeNames, writeOf, above, placeOf}
 use Rattle.rows.specs.Search.{first-le}
 use Rattle.rows.specs.Changed.{WithWrite}
@@ -33,7 +34,8 @@ module _ (f h : ℕ → WriteEntry) (item v : ℕ) where
   abbrev match : ℕ → Bool
   match j = eqb (f j .item) item
 
-  renewed-seg : (n i : ℕ) → ((j : ℕ) → j ≢ scan match i n → h j ≡ f j) → h (scan match i n) ≡ folded (f (scan match i n)) v → renewed item v (seg f i n) ≡ seg h i n
+  renewed-seg : (n i : ℕ) → ((j : ℕ) → j ≢ scan match i n → h j ≡ f j) → h (scan match i n) ≡ folded (f (scan match i n)) v →
+      renewed item v (seg f i n) ≡ seg h i n
   unfolding seg renewed scan
   renewed-seg zero i a b = refl
   renewed-seg (suc n) i a b = go (eqb (f i .item) item) (scan-ge match n (suc i)) (renewed-seg n (suc i)) a b
@@ -66,9 +68,11 @@ module _ (f h : ℕ → WriteEntry) (item v : ℕ) where
       m = scan beyond (suc i) n
 
       go : (d : Bool) → suc i ≤ m →
-          (((j : ℕ) → j < m → h j ≡ f j) → h m ≡ record { item = item; value = v } → ((j : ℕ) → m ≤ j → j < suc i + n → h (suc j) ≡ f j) → inserted item v (seg f (suc i) n) ≡ h (suc i) ∷ seg h (suc (suc i)) n) →
+          (((j : ℕ) → j < m → h j ≡ f j) → h m ≡ record { item = item; value = v } →
+          ((j : ℕ) → m ≤ j → j < suc i + n → h (suc j) ≡ f j) → inserted item v (seg f (suc i) n) ≡ h (suc i) ∷ seg h (suc (suc i)) n) →
           (((j : ℕ) → i ≤ j → j < i + suc n → h (suc j) ≡ f j) → f i ∷ seg f (suc i) n ≡ h (suc i) ∷ seg h (suc (suc i)) n) →
-          ((j : ℕ) → j < cond d i m → h j ≡ f j) → h (cond d i m) ≡ record { item = item; value = v } → ((j : ℕ) → cond d i m ≤ j → j < i + suc n → h (suc j) ≡ f j) →
+          ((j : ℕ) → j < cond d i m → h j ≡ f j) → h (cond d i m) ≡ record { item = item; value = v } →
+          ((j : ℕ) → cond d i m ≤ j → j < i + suc n → h (suc j) ≡ f j) →
           cond d (record { item = item; value = v } ∷ f i ∷ seg f (suc i) n) (f i ∷ inserted item v (seg f (suc i) n)) ≡ h i ∷ h (suc i) ∷ seg h (suc (suc i)) n
       go true l k e a b c = λ z. sym b z ∷ e c z
       go false l k e a b c = λ z. sym (a i (omega arith)) z ∷ k a b (λ j p q. c j p (omega arith)) z
@@ -100,7 +104,8 @@ module _ (g : List ℕ) (item v : ℕ) (size : length g ≡ rowWidth) (few : wri
       let at-value = getD-set-same g (writeValueAt i) v 0 (omega arith) in
       ap (seg (writeAt renewedRow) 0) (getD-set-other g (writeValueAt i) writesAt v 0 (omega arith))
       ∙ sym (renewed-seg (writeAt g) (writeAt renewedRow) item v (writes g) 0
-      (λ j d. write-same g renewedRow j j (getD-set-other g (writeValueAt i) (writeItemAt j) v 0 (omega arith)) (getD-set-other g (writeValueAt i) (writeValueAt j) v 0 (omega arith)))
+      (λ j d. write-same g renewedRow j j (getD-set-other g (writeValueAt i) (writeItemAt j) v 0 (omega arith))
+      (getD-set-other g (writeValueAt i) (writeValueAt j) v 0 (omega arith)))
       (λ z. record { item = at-item z; value = at-value z }))
 
 -- a new entry in its place
@@ -117,7 +122,8 @@ module _ (g h : List ℕ) (item v : ℕ) (p : WithWrite g h (placeOf g item) ite
       ∙ sym (inserted-seg (writeAt g) (writeAt h) item v (writes g) 0
       (λ j l. write-same g h j j (p .before (writeItemAt j) (omega arith) (omega arith)) (p .before (writeValueAt j) (omega arith) (omega arith)))
       (λ z. record { item = p .has-item z; value = p .has-value z })
-      (λ j a b. write-same g h j (suc j) (up (writeItemAt j) (writeItemAt (suc j)) (omega arith) (omega arith) (omega arith)) (up (writeValueAt j) (writeValueAt (suc j)) (omega arith) (omega arith) (omega arith))))
+      (λ j a b. write-same g h j (suc j) (up (writeItemAt j) (writeItemAt (suc j)) (omega arith) (omega arith) (omega arith))
+      (up (writeValueAt j) (writeValueAt (suc j)) (omega arith) (omega arith) (omega arith))))
     where
       up : (f e : ℕ) → e ≡ f + writeWidth → writeItemAt (placeOf g item) ≤ f → f < writeItemAt (writes g) → getD h e 0 ≡ getD g f 0
       up f e q a b = rw q (p .up f a b)

@@ -3,7 +3,8 @@ use Prim.Native.Nat.{ℕ, zero, suc, _+_, _-_, _≤_, _<_}
 use mathlib.Core.Path.{_≡_, refl, sym, ap, _∙_}
 use mathlib.Core.Logic.{⊎-elim}
 use mathlib.Core.Bool.{Bool, true, false, cond, _||_}
-use mathlib.Core.List.{List, [], _∷_, _++_, map, List·Memᴰ as In, List·Memᴰ·head as here, List·Memᴰ·tail as there, List·Memᴰ·cases-cons as uncons, List·Memᴰ·not-nil as not-nil}
+use mathlib.Core.List.{List, [], _∷_, _++_, map, List·Memᴰ as In, List·Memᴰ·head as here, List·Memᴰ·tail as there}
+use mathlib.Core.List.{List·Memᴰ·cases-cons as uncons, List·Memᴰ·not-nil as not-nil}
 use native.Mathlib.Omega.{arith}
 use native.Mathlib.Nat.{eq-or-lt-of-le}
 use native.Mathlib.Numerals.{add-one}
@@ -38,7 +39,8 @@ module _ {A : Type 0} where
     where
       go : (n i : ℕ) → seg f i (suc n) ≡ seg f i n ++ (f (i + n) ∷ [])
       go zero i = ap (λ (j : ℕ). f j ∷ []) (let e : i ≡ i + 0 = omega arith in e)
-      go (suc n) i = ap (λ (l : List A). f i ∷ l) (go n (suc i) ∙ ap (λ (j : ℕ). seg f (suc i) n ++ (f j ∷ [])) (let e : suc i + n ≡ i + suc n = omega arith in e))
+      go (suc n) i =
+          ap (λ (l : List A). f i ∷ l) (go n (suc i) ∙ ap (λ (j : ℕ). seg f (suc i) n ++ (f j ∷ [])) (let e : suc i + n ≡ i + suc n = omega arith in e))
 
   -- from p on: one fewer at the front, none, all
   pub seg-next : (f : ℕ → A) (p n : ℕ) → p < n → seg f p (n - p) ≡ f p ∷ seg f (p + 1) (n - (p + 1))
@@ -78,7 +80,8 @@ module _ {A : Type 0} where
       go zero i = sym (le-ltb i (i + 0) (omega arith))
       go (suc n) i = by (p (f i)) (go n (suc i))
         where
-          by : (b : Bool) → has p (seg f (suc i) n) ≡ ltb (scan (λ j. p (f j)) (suc i) n) (suc i + n) → (b || has p (seg f (suc i) n)) ≡ ltb (cond b i (scan (λ j. p (f j)) (suc i) n)) (i + suc n)
+          by : (b : Bool) → has p (seg f (suc i) n) ≡ ltb (scan (λ j. p (f j)) (suc i) n) (suc i + n) →
+              (b || has p (seg f (suc i) n)) ≡ ltb (cond b i (scan (λ j. p (f j)) (suc i) n)) (i + suc n)
           by true e = sym (lt-ltb i (i + suc n) (omega arith))
           by false e = e ∙ ap (ltb (scan (λ j. p (f j)) (suc i) n)) (let q : suc i + n ≡ i + suc n = omega arith in q)
 

@@ -67,7 +67,8 @@ module _ (t : Tables) (start : ℕ) (plan : List ℕ) (b : Begun t start plan) w
           limits = λ o l. let q = none-held o in omega arith;
           claims-fit =
               let q = planned seats good-plan .total in
-              let r : sumTo (claim seats) owners ≡ sumTo (share seats) owners = sum-same (share seats) (claim seats) owners (λ o l. let y = none-held o in omega arith) in
+              let r : sumTo (claim seats) owners ≡ sumTo (share seats) owners =
+              sum-same (share seats) (claim seats) owners (λ o l. let y = none-held o in omega arith) in
               omega arith;
         };
         held-once = λ x l.

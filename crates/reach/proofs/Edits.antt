@@ -12,7 +12,9 @@ use lib.ListN.{length, getD, set, take}
 use lib.Seq.{getD-set-other}
 use Rattle.clock.specs.Word.{isLocked, writeTime, readTime}
 use Rattle.clock.specs.Laws.{write≤read}
-use Rattle.rules.specs.Layout.{seatCount, mostReads, mostWrites, rowWidth, phaseAt, ownerAt, positionAt, readsAt, writesAt, timeAt, readItemAt, keptWriteAt, keptReadAt, writeItemAt, writeValueAt, writeWidth, row, put, phase, owner, position, reads, writes, time, readItem, keptWrite, keptRead, writeItem}
+use Rattle.rules.specs.Layout.{seatCount, mostReads, mostWrites, rowWidth, phaseAt, ownerAt, positionAt, readsAt, writesAt, timeAt}
+use Rattle.rules.specs.Layout.{readItemAt, keptWriteAt, keptReadAt, writeItemAt, writeValueAt, writeWidth, row, put, phase, owner, position}
+use Rattle.rules.specs.Layout.{reads, writes, time, readItem, keptWrite, keptRead, writeItem}
 use Rattle.rules.specs.Places.{length-row}
 use Rattle.rules.specs.Tables.{Tables, after, keep}
 use Rattle.rules.specs.Answers.{ready, value, noted, refused, kind}
@@ -72,7 +74,8 @@ no-read-of : (g : List ℕ) (x i : ℕ) → reads g ≤ readOf g x → i < reads
 unfolding readOf readNames
 no-read-of g x i h l = eqb-false _ _ (before-first (readNames g x) (reads g) i (omega arith))
 
-module _ (t : Tables) (s : ℕ) (k : InOrder t) (u : Used (length (t .words)) (row (t .seats) s)) (small : s < seatCount) (work : phase (row (t .seats) s) ≡ 1) where
+module _ (t : Tables) (s : ℕ) (k : InOrder t) (u : Used (length (t .words)) (row (t .seats) s)) (small : s < seatCount)
+    (work : phase (row (t .seats) s) ≡ 1) where
   abbrev g : List ℕ
   g = row (t .seats) s
 
@@ -261,7 +264,8 @@ module _ (t : Tables) (s : ℕ) (k : InOrder t) (u : Used (length (t .words)) (r
         fits = fits;
         at = z .has-item;
         low = λ j l. z .before (writeItemAt j) (omega arith) (omega arith);
-        high = λ j a l. ap (λ (f : ℕ). getD h f 0) (let q : writeItemAt (j + 1) ≡ writeItemAt j + writeWidth = omega arith in q) ∙ z .up (writeItemAt j) (omega arith) (omega arith);
+        high = λ j a l. ap (λ (f : ℕ). getD h f 0) (let q : writeItemAt (j + 1) ≡ writeItemAt j + writeWidth = omega arith in q)
+            ∙ z .up (writeItemAt j) (omega arith) (omega arith);
       } in
       let over : (j : ℕ) → i ≤ j → j < n → x < writeItem g j =
       (λ j a l. let b = behind (omega arith) in ⊎-elim (λ (q : i ≡ j). rw q at b) (λ q. let r = e .ascending i j q l in omega arith) (eq-or-lt-of-le a)) in

@@ -148,4 +148,5 @@ module _ (t : Tables) (s : ℕ) (f : Seen → Answer → Seen) (size : length (t
       (λ x h q. let k = named-has (writeItem g) (lockFrom g) (lockTo g) x q in
       let b = k .1 .below in
       released-hit (t .words) g n (k .0) x h (omega arith) (k .1 .named))
-      (λ x h q. released-miss (t .words) g n x (λ i b z. named-none (writeItem g) (lockFrom g) (lockTo g) x i q (record { from = omega arith; below = omega arith; named = z })))
+      (λ x h q. released-miss (t .words) g n x
+      (λ i b z. named-none (writeItem g) (lockFrom g) (lockTo g) x i q (record { from = omega arith; below = omega arith; named = z })))

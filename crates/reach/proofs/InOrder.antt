@@ -8,7 +8,8 @@ use lib.ListN.{length, getD}
 use lib.Dec.{eqb, leb}
 use Rattle.clock.specs.Word.{top, isLocked, readTime}
 use Rattle.rules.specs.Tests.{any, count}
-use Rattle.rules.specs.Layout.{owners, seatCount, mostReads, mostWrites, rowWidth, writesFrom, readItemAt, writeItemAt, row, phase, owner, position, reads, writes, time, readItem, keptWrite, keptRead, writeItem, limit}
+use Rattle.rules.specs.Layout.{owners, seatCount, mostReads, mostWrites, rowWidth, writesFrom, readItemAt, writeItemAt, row, phase, owner}
+use Rattle.rules.specs.Layout.{position, reads, writes, time, readItem, keptWrite, keptRead, writeItem, limit}
 use Rattle.rules.specs.Tables.{Tables}
 use Rattle.rules.specs.Plan.{badPlan, held, claims}
 use Rattle.rows.specs.Fine.{Sized}

@@ -17,7 +17,8 @@ use Rattle.rules.specs.Answers.{refused, kind}
 use Rattle.rules.specs.Refusals.{misnamed, foreign, refusal}
 use Rattle.rules.specs.Work.{readIn, read, writeIn, write}
 use Rattle.rules.specs.Advance as A
-use Rattle.rules.specs.Advance.{letGo, lockStep, timeStep, commitTime, judged, ruled, checkStep, sealStep, storeStep, doneStep, lockPhase, checkPhase, storePhase, advanceIn, advance, abandon}
+use Rattle.rules.specs.Advance.{letGo, lockStep, timeStep, commitTime, judged, ruled, checkStep, sealStep, storeStep, doneStep, lockPhase}
+use Rattle.rules.specs.Advance.{checkPhase, storePhase, advanceIn, advance, abandon}
 use Rattle.rules.specs.Calls.{Advance, step}
 use Rattle.rules.specs.declared.Answer.the-variants.{Dropped}
 use Rattle.rules.specs.declared.Verdict.{Verdict}
@@ -28,7 +29,8 @@ use Rattle.reach.specs.Reached.{Reached, seen}
 use Rattle.reach.specs.Counts.{advanceCount, writeCount, readCount}
 use Rattle.reach.specs.Life.{script, Life, LifeOfEach}
 use Rattle.reach.proofs.Tests.{by}
-use Rattle.reach.proofs.Script.{script-length, NextKind, says-aborted, says-locked, says-timed, says-checked, says-sealed, says-stored, says-done, kind-script, kind-done, kind-sealed}
+use Rattle.reach.proofs.Script.{script-length, NextKind, says-aborted, says-locked, says-timed, says-checked, says-sealed}
+use Rattle.reach.proofs.Script.{says-stored, says-done, kind-script, kind-done, kind-sealed}
 use Rattle.reach.proofs.InOrder.{Used, stepsTaken, InOrder}
 use Rattle.reach.proofs.Rows.{undamaged, steps-early, steps-three, steps-four, early-fits}
 use Rattle.reach.proofs.Opens.{not-unsized}
@@ -51,7 +53,8 @@ module _ (t : Tables) (s : ℕ) (u : Used (length (t .words)) (row (t .seats) s)
       let f = early-fits g (u .head) p in
       by (ltb (position g) (writes g))
       (λ e. let l = ltb-true (position g) (writes g) e in
-      rw e (by (isLocked (getD (t .words) (writeItem g (position g)) 0)) (λ y. rw y (says-aborted (omega arith) refl)) (λ y. rw y (says-locked (omega arith) refl))))
+      rw e (by (isLocked (getD (t .words) (writeItem g (position g)) 0))
+      (λ y. rw y (says-aborted (omega arith) refl)) (λ y. rw y (says-locked (omega arith) refl))))
       (λ e. let l = ltb-false (position g) (writes g) e in
       rw e (by (ltb top (commitTime (t .words) g)) (λ y. rw y (says-aborted (omega arith) refl)) (λ y. rw y (says-timed (omega arith) refl))))
 
@@ -141,7 +144,10 @@ module _ (t : Tables) (z : Reached t) (s : ℕ) (low : s < seatCount) where
       let g : List ℕ = row (t .seats) s in
       let m = advances-are in
       by (eqb (phase g) 0)
-      (λ e. let q = eqb-true (phase g) 0 e in let a = steps-early g (omega arith) in let b = k .rows s low .free q positionAt (omega arith) in absurd (omega arith))
+      (λ e. let q = eqb-true (phase g) 0 e in
+      let a = steps-early g (omega arith) in
+      let b = k .rows s low .free q positionAt (omega arith) in
+      absurd (omega arith))
       (λ e. let d : phase g ≢ 0 = eqb-false _ _ e in by (eqb (phase g) 1)
       (λ y. let q = eqb-true (phase g) 1 y in let a = steps-early g (omega arith) in let b = k .rows s low .in-use d .head .working q in absurd (omega arith))
       (λ y. let q : phase g ≢ 1 = eqb-false _ _ y in omega arith))

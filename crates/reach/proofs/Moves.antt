@@ -10,11 +10,13 @@ use lib.Dec.{leb, ltb, eqb}
 use lib.ListN.{length, getD, set, length-set}
 use Rattle.clock.specs.Word.{top, isLocked, writeTime, readTime, withLock, fresh, extended}
 use Rattle.clock.specs.Laws.{withLock-is, fresh-is, extended-is}
-use Rattle.rules.specs.Layout.{seatCount, seatsLength, positionAt, timeAt, writeItemAt, row, put, phase, position, reads, writes, time, keptWrite, writeItem, writeValue}
+use Rattle.rules.specs.Layout.{seatCount, seatsLength, positionAt, timeAt, writeItemAt, row, put, phase, position, reads, writes, time}
+use Rattle.rules.specs.Layout.{keptWrite, writeItem, writeValue}
 use Rattle.rules.specs.Places.{length-row}
 use Rattle.rules.specs.Tables.{Tables, after}
 use Rattle.rules.specs.Answers.{locked, stored, kind}
-use Rattle.rules.specs.Advance.{moved, lockStep, commitTime, timeStep, verdict, checkItem, judged, stretched, passed, ruled, checkStep, sealStep, effect, storeStep, doneStep, lockPhase, checkPhase, storePhase, advanceIn}
+use Rattle.rules.specs.Advance.{moved, lockStep, commitTime, timeStep, verdict, checkItem, judged, stretched, passed, ruled, checkStep}
+use Rattle.rules.specs.Advance.{sealStep, effect, storeStep, doneStep, lockPhase, checkPhase, storePhase, advanceIn}
 use Rattle.rules.specs.declared.Answer.{Answer}
 use Rattle.rules.specs.declared.Answer.the-variants.{Locked, Timed, Checked, Sealed, Stored, Done, Dropped, Aborted}
 use Rattle.rules.specs.declared.Verdict.{Verdict}
@@ -31,7 +33,8 @@ use Rattle.reach.proofs.Count.{one, one-le}
 use Rattle.reach.proofs.InOrder.{Head, Used, locks, stepsTaken, lockBit}
 use Rattle.reach.proofs.Script.{script-length, NextKind, says-locked, says-timed, says-checked, says-sealed, says-stored, kind-next}
 use Rattle.reach.proofs.Named.{named-yes, named-no, named-same, locks-same, locks-none}
-use Rattle.reach.proofs.Rows.{nudged-owner, nudged-head, used-nudged, row-used, from-zero, from-four, to-early, to-late, steps-early, steps-three, steps-four, early-fits}
+use Rattle.reach.proofs.Rows.{nudged-owner, nudged-head, used-nudged, row-used, from-zero, from-four, to-early, to-late, steps-early}
+use Rattle.reach.proofs.Rows.{steps-three, steps-four, early-fits}
 use Rattle.reach.proofs.WithinPlan.{held-less}
 use Rattle.reach.proofs.Steps.{Follows, StaysTimely, seenOf, seen-as, left-four, left-none, Tells, Step, set-ind}
 use Rattle.reach.proofs.Freed.{Ends, free-step, lets-go}
@@ -170,7 +173,8 @@ module _ (t : Tables) (s : ℕ) (size : length (t .seats) ≡ seatsLength) (smal
       (λ z. by (eqb x z)
       (λ e. rw e (ap (locks h) (sym (eqb-true x z e)) ∙ taken ∙ sym (or-true (locks g z))))
       (λ e. rw e (others z (eqb-false x z e) ∙ sym (or-false (locks g z))))) in
-      nudge-step (t .values) (set (t .words) x (withLock true word)) (moved (t .seats) s 2 q) h (Locked x) (becomes-moved (t .seats) s 2 q) n refl (length-set (t .words) x (withLock true word))
+      nudge-step (t .values) (set (t .words) x (withLock true word)) (moved (t .seats) s 2 q) h (Locked x) (becomes-moved (t .seats) s 2 q) n refl
+      (length-set (t .words) x (withLock true word))
       (omega arith)
       (λ k. absurd (omega arith))
       (λ z l le. set-ind (λ v. one (isLocked v) + one (locks g z) ≡ lockBit (t .words) z + one (locks h z)) (t .words) x (withLock true word) z inside
@@ -204,7 +208,8 @@ module _ (t : Tables) (s : ℕ) (size : length (t .seats) ≡ seatsLength) (smal
       let ph = steps-three h (n .is-phase) in
       let from = from-zero h (omega arith) ∙ sym (from-zero g (omega arith)) in
       let same = still h n from (to-late h (omega arith) ∙ nudged-writes n ∙ sym e ∙ sym (to-early g p)) in
-      nudge-step (t .values) (t .words) (put (moved (t .seats) s 3 0) s timeAt tc) h (Timed tc) (then-put timeAt tc (omega arith) (becomes-moved (t .seats) s 3 0)) n refl refl
+      nudge-step (t .values) (t .words) (put (moved (t .seats) s 3 0) s timeAt tc) h (Timed tc)
+      (then-put timeAt tc (omega arith) (becomes-moved (t .seats) s 3 0)) n refl refl
       (omega arith)
       (λ q. kept)
       (follows-same (t .words) h (λ x l. refl) same)
@@ -240,7 +245,8 @@ module _ (t : Tables) (s : ℕ) (size : length (t .seats) ≡ seatsLength) (smal
       (u .not-below)
       (follows-same words h eb same)
       et
-      (tells-more (Checked (checkItem g)) _ _ (time g) _ n (says-checked (position g) b (omega arith) refl) (omega arith) (not-four h (omega arith) (omega arith)) same refl
+      (tells-more (Checked (checkItem g)) _ _ (time g) _ n (says-checked (position g) b (omega arith) refl) (omega arith)
+      (not-four h (omega arith) (omega arith)) same refl
       (none-left h (omega arith) (omega arith)) refl)
 
   ruled-ok : phase g ≡ 3 → position g < reads g → (v : Verdict) → judged (t .words) g ≡ v → Step t s onAdvance (ruled t s v)
@@ -320,11 +326,14 @@ module _ (t : Tables) (s : ℕ) (size : length (t .seats) ≡ seatsLength) (smal
       (λ z. by (eqb x z)
       (λ e. rw e (ap (locks h) (sym (eqb-true x z e)) ∙ given ∙ sym (and-false (locks g z))))
       (λ e. rw e (others z (eqb-false x z e) ∙ sym (and-true (locks g z))))) in
-      nudge-step (set (t .values) x v) (set (t .words) x f) (put (t .seats) s positionAt q) h (Stored x) (becomes-put (t .seats) s positionAt q (omega arith)) n (length-set (t .values) x v) (length-set (t .words) x f)
+      nudge-step (set (t .values) x v) (set (t .words) x f) (put (t .seats) s positionAt q) h (Stored x)
+      (becomes-put (t .seats) s positionAt q (omega arith)) n (length-set (t .values) x v) (length-set (t .words) x f)
       (omega arith)
       (u .not-below)
       (λ z l le. set-ind (λ v. one (isLocked v) + one (locks g z) ≡ lockBit (t .words) z + one (locks h z)) (t .words) x f z inside
-      (λ e. let b0 : one (locks g z) ≡ 1 = ap one (named-yes (writeItem g) (lockFrom g) (lockTo g) z (position g) (record { from = omega arith; below = omega arith; named = e })) in
+      (λ e. let held : locks g z ≡ true =
+      named-yes (writeItem g) (lockFrom g) (lockTo g) z (position g) (record { from = omega arith; below = omega arith; named = e }) in
+      let b0 : one (locks g z) ≡ 1 = ap one held in
       let b1 : one (isLocked f) ≡ 0 = ap one (now .is-locked) in
       let b2 : one (locks h z) ≡ 0 = ap one (ap (locks h) (sym e) ∙ given) in
       let b3 = one-le (isLocked (getD (t .words) z 0)) in

@@ -40,7 +40,8 @@ sees-run : (t : Tables) (b : Observer) → InOrder t → Sees t b → (cs : List
 unfolding run history observed
 sees-run t b k z [] = z
 sees-run t b k z (c ∷ cs) =
-    sees-run (step t c .tables) (observe b c (step t c .answer)) (after-effect t c (step t c) k (effect-of t k c)) (sees-effect t b c (step t c) z (effect-of t k c)) cs
+    sees-run (step t c .tables) (observe b c (step t c .answer)) (after-effect t c (step t c) k (effect-of t k c))
+    (sees-effect t b c (step t c) z (effect-of t k c)) cs
 
 module _ (t : Tables) (z : Reached t) where
   sees : Sees t (seen z)

@@ -154,7 +154,8 @@ module _ (t : Tables) (k : InOrder t) (o : ℕ) where
               (record {
                 is-open = ap not (ne-eqb (phase h) 0 (omega arith));
                 is-holder = z .is-owner;
-                is-advances = ap (λ (n : ℕ). take n (script (writes h) (reads h))) (steps-early h (omega arith) ∙ z .rest positionAt (omega arith) (omega arith));
+                is-advances = ap (λ (n : ℕ). take n (script (writes h) (reads h)))
+                    (steps-early h (omega arith) ∙ z .rest positionAt (omega arith) (omega arith));
                 is-sealed = ne-eqb (phase h) 4 none;
                 shows = record {
                   is-reads = ap (seg (readAt h) 0) (z .rest readsAt (omega arith) (omega arith));
@@ -172,4 +173,5 @@ module _ (t : Tables) (k : InOrder t) (o : ℕ) where
     open-within r =
         let z = opened-row o in
         let d0 : phase h ≡ 1 = z .is-phase in
-        within-open (becomes-opened (t .seats) s o (length-row (t .seats) s (k .sized .rows) small)) small o (r .owner-in) free (omega arith) (z .is-owner) (r .below) (r .fair) (k .within)
+        within-open (becomes-opened (t .seats) s o (length-row (t .seats) s (k .sized .rows) small)) small o (r .owner-in) free (omega arith)
+        (z .is-owner) (r .below) (r .fair) (k .within)

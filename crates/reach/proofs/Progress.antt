@@ -170,7 +170,8 @@ seen-more z c =
 shown-more : {t : Tables} (z : Reached t) (o s : ℕ) (a : Answer) → advanced t o s ≡ a → seen (more z (Advance o s)) .seats s ≡ onAdvance (seen z .seats s) a
 unfolding observe
 shown-more z o s a e =
-    ap (λ (b : Observer). b .seats s) (seen-more z (Advance o s)) ∙ changed-same s (onAdvance (seen z .seats s) _) (seen z .seats) ∙ ap (onAdvance (seen z .seats s)) e
+    ap (λ (b : Observer). b .seats s) (seen-more z (Advance o s)) ∙ changed-same s (onAdvance (seen z .seats s) _) (seen z .seats)
+    ∙ ap (onAdvance (seen z .seats s)) e
 
 -- A SEALED SEAT, whatever others do
 module _ (t : Tables) (z : Reached t) (s : ℕ) (low : s < seatCount) (h : seen z .seats s .isSealed ≡ true) where
@@ -216,7 +217,8 @@ module _ (t : Tables) (z : Reached t) (s : ℕ) (low : s < seatCount) (h : seen 
   still (Advance o j) f d =
       seat-still (Advance o j) j (refusal t o j 0 4) (changed-other j _ (seen z .seats) s)
       (λ e. unless-refused (refusal t o j 0 4) t (advanceIn t j)
-      (rw (← e) (no-holder o (λ q. let y : _≡_ {A = Bool} true false = rw (eq-eqb o (seen z .seats s .holder) q, eq-eqb j s (sym e)) at f in absurd (true≢false y)))))
+      (rw (← e) (no-holder o
+      (λ q. let y : _≡_ {A = Bool} true false = rw (eq-eqb o (seen z .seats s .holder) q, eq-eqb j s (sym e)) at f in absurd (true≢false y)))))
   still (Abandon o j) f d =
       seat-still (Abandon o j) j (refusal t o j 0 3) (changed-other j _ (seen z .seats) s)
       (λ e. unless-refused (refusal t o j 0 3) t (letGo t j (Dropped j)) (rw (← e) (too-late o 0 3 (omega arith))))

@@ -8,7 +8,8 @@ use native.Mathlib.Omega.{arith}
 use borrow.Author.Tests.{le-leb, lt-leb, leb-true, eqb-true, eqb-false, eq-eqb, ne-eqb, le-ltb}
 use lib.Dec.{leb, ltb, eqb}
 use Rattle.clock.specs.Word.{top}
-use Rattle.rules.specs.Layout.{owners, mostReads, mostWrites, phaseAt, ownerAt, readItemAt, keptWriteAt, keptReadAt, writeItemAt, phase, owner, position, reads, writes, time, readItem, keptWrite, writeItem}
+use Rattle.rules.specs.Layout.{owners, mostReads, mostWrites, phaseAt, ownerAt, readItemAt, keptWriteAt, keptReadAt, writeItemAt, phase}
+use Rattle.rules.specs.Layout.{owner, position, reads, writes, time, readItem, keptWrite, writeItem}
 use Rattle.rules.specs.Refusals.{misplaced, late, badRead, badWrite, damaged}
 use Rattle.rules.specs.Advance.{heldLocks}
 use Rattle.rows.specs.Search.{none-any}

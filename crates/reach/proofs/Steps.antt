@@ -27,7 +27,8 @@ use Rattle.reach.proofs.WithinPlan.{heldBy}
 -- a record's lock goes with the hold on it of the row that was g and is h
 abbrev pub Follows : (words words′ g h : List ℕ) → Type 0
 Follows words words′ g h =
-    (item : ℕ) → item < length words → one (locks g item) ≤ lockBit words item → lockBit words′ item + one (locks g item) ≡ lockBit words item + one (locks h item)
+    (item : ℕ) → item < length words → one (locks g item) ≤ lockBit words item →
+    lockBit words′ item + one (locks g item) ≡ lockBit words item + one (locks h item)
 
 -- no read time comes to be above T
 abbrev pub StaysTimely : (words words′ : List ℕ) → Type 0
@@ -110,7 +111,12 @@ state-after t t′ s h low c b k =
     let ev = c .values in
     let z = k .sized in
     record {
-      sized = record { same = let q = z .same in omega arith; some = let q = z .some in omega arith; few = let q = z .few in omega arith; rows = c .becomes .size ∙ z .rows };
+      sized = record {
+        same = let q = z .same in omega arith;
+        some = let q = z .some in omega arith;
+        few = let q = z .few in omega arith;
+        rows = c .becomes .size ∙ z .rows;
+      };
       rows = λ r l. rw el
           (by (eqb r s)
           (λ e. rw (eqb-true r s e, c .becomes .own) (c .in-order))

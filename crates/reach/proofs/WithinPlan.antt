@@ -130,7 +130,8 @@ module _ {s : ℕ} {l m h : List ℕ} (c : Becomes l m s h) (low : s < seatCount
       let more = held-more o free used own in
       let rest = held-rest o free used own in
       let sh = share-same l m (c .plan) in
-      let sums : sumTo (claim m) owners + claim l o ≡ sumTo (claim l) owners + claim m o = sum-change (claim l) (claim m) o owners small (λ w k d. rw (rest w d, sh w k)) in
+      let sums : sumTo (claim m) owners + claim l o ≡ sumTo (claim l) owners + claim m o =
+      sum-change (claim l) (claim m) o owners small (λ w k d. rw (rest w d, sh w k)) in
       record {
         plan = plan-same l m (c .plan) (b .plan);
         limits = λ w k.

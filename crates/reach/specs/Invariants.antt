@@ -7,7 +7,8 @@ use mathlib.Core.List.{List, map}
 use lib.ListN.{length, getD}
 use lib.Dec.{eqb, leb}
 use Rattle.clock.specs.Word.{top, isLocked, writeTime, readTime}
-use Rattle.rules.specs.Layout.{seatCount, rowWidth, writesFrom, readItemAt, writeItemAt, row, cell, phase, position, reads, writes, time, readItem, keptWrite, keptRead, writeItem}
+use Rattle.rules.specs.Layout.{seatCount, rowWidth, writesFrom, readItemAt, writeItemAt, row, cell, phase, position, reads, writes, time}
+use Rattle.rules.specs.Layout.{readItem, keptWrite, keptRead, writeItem}
 use Rattle.rules.specs.Tables.{Tables}
 use Rattle.rules.specs.Refusals.{damaged}
 use Rattle.rows.specs.Fine.{Sized}

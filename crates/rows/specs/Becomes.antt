@@ -8,7 +8,9 @@ use native.Mathlib.Omega.{arith}
 use lib.ListN.{length, getD, set, drop-of-length-le}
 use lib.Seq.{take-nil}
 use Rattle.clock.specs.Word.{writeTime, readTime}
-use Rattle.rules.specs.Layout.{seatCount, planWidth, rowWidth, rowAt, seatsLength, writeWidth, phaseAt, ownerAt, positionAt, readsAt, writesAt, readItemAt, readValueAt, keptWriteAt, keptReadAt, writeItemAt, writeValueAt, row, cell, put, reads, writes}
+use Rattle.rules.specs.Layout.{seatCount, planWidth, rowWidth, rowAt, seatsLength, writeWidth, phaseAt, ownerAt, positionAt, readsAt}
+use Rattle.rules.specs.Layout.{writesAt, readItemAt, readValueAt, keptWriteAt, keptReadAt, writeItemAt, writeValueAt, row, cell, put, reads}
+use Rattle.rules.specs.Layout.{writes}
 use Rattle.rules.specs.Places.{length-put, row-put, row-put-other, put-plan}
 use Rattle.rules.specs.Plan.{cleared, freed, opened}
 use Rattle.rules.specs.Work.{readNoted, slid, placed}

@@ -10,7 +10,8 @@ use lib.Dec.{eqb, ltb}
 use lib.ListN.{length}
 use Rattle.clock.specs.Word.{top}
 use Rattle.rules.specs.Tests.{any, oneOf, firstOf}
-use Rattle.rules.specs.Layout.{owners, seatCount, mostRecords, mostReads, mostWrites, rowWidth, seatsLength, row, phase, owner, position, reads, writes, time, readItem, keptWrite, writeItem}
+use Rattle.rules.specs.Layout.{owners, seatCount, mostRecords, mostReads, mostWrites, rowWidth, seatsLength, row, phase, owner, position}
+use Rattle.rules.specs.Layout.{reads, writes, time, readItem, keptWrite, writeItem}
 use Rattle.rules.specs.Places.{length-row}
 use Rattle.rules.specs.Tables.{Tables}
 use Rattle.rules.specs.Refusals.{unsized, misnamed, misplaced, late, badRead, badWrite, damaged, foreign, refusal}
@@ -134,7 +135,8 @@ module _ (g : List ℕ) (records : ℕ) (h : Sound g records) where
   -- a row in phases 1 to 3 holds no more locks than it has writes
   pub locks-small : phase g ≢ 0 → phase g ≤ 3 → heldLocks g ≤ writes g
   unfolding heldLocks
-  locks-small d l = cond-ind (λ (n : ℕ). n ≤ writes g) (eqb (phase g) 3) (λ e. omega arith) (λ e. let q : phase g ≢ 3 = eqb-false _ _ e in position-low d (omega arith))
+  locks-small d l =
+      cond-ind (λ (n : ℕ). n ≤ writes g) (eqb (phase g) 3) (λ e. omega arith) (λ e. let q : phase g ≢ 3 = eqb-false _ _ e in position-low d (omega arith))
 
 -- A CALL THAT NAMES A SEAT and is not refused
 pub record Fine (t : Tables) (o s item last : ℕ) : Type 0 where

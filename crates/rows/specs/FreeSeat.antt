@@ -24,7 +24,8 @@ module _ (seats : List ℕ) where
   counted s h = simp (ne-eqb _ _ h, eq-eqb (owner (row seats s)) (owner (row seats s)) refl)
 
   -- the first n rows, none of them free and each with an owner, are held by the owners
-  all-held : (n : ℕ) → ((s : ℕ) → s < n → phase (row seats s) ≢ 0) → ((s : ℕ) → s < n → owner (row seats s) < owners) → n ≤ sumTo (λ o. count (holds seats o) n) owners
+  all-held : (n : ℕ) → ((s : ℕ) → s < n → phase (row seats s) ≢ 0) → ((s : ℕ) → s < n → owner (row seats s) < owners) →
+      n ≤ sumTo (λ o. count (holds seats o) n) owners
   unfolding count
   all-held zero busy own = omega arith
   all-held (suc n) busy own =
@@ -68,6 +69,7 @@ seat-found t o e =
     let l = leb-false owners o (r .1 .0) in
     by-test (any (isFree (t .seats)) seatCount) refl (no-room (t .seats) o l (r .1 .1 .0) (r .1 .1 .1 .1 .1 .1 .0))
   where
-    by-test : (b : Bool) → any (isFree (t .seats)) seatCount ≡ b → (any (isFree (t .seats)) seatCount ≡ false → ⊥) → first (isFree (t .seats)) seatCount < seatCount
+    by-test : (b : Bool) → any (isFree (t .seats)) seatCount ≡ b → (any (isFree (t .seats)) seatCount ≡ false → ⊥) →
+        first (isFree (t .seats)) seatCount < seatCount
     by-test true q h = ltb-true _ _ q
     by-test false q h = absurd (h q)

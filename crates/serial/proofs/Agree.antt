@@ -80,20 +80,23 @@ StaysMirrored opening b c z = Mirrored opening (z .tables) (observe b c (z .answ
 pub refused : (opening : Values) (t : Tables) (b : Observer) → Mirrored opening t b → (c : Call) (why : ℕ) → StaysMirrored opening b c (keep t (Refused why))
 refused opening t b now c why = rw (refusal-shows b c why) now
 
-pub unless-ok : (opening : Values) (t : Tables) (b : Observer) → Mirrored opening t b → (c : Call) (why : ℕ) (z : Outcome) → (why ≡ 0 → StaysMirrored opening b c z) → StaysMirrored opening b c (unless why t z)
+pub unless-ok : (opening : Values) (t : Tables) (b : Observer) → Mirrored opening t b → (c : Call) (why : ℕ) (z : Outcome) →
+    (why ≡ 0 → StaysMirrored opening b c z) → StaysMirrored opening b c (unless why t z)
 unless-ok opening t b now c why z h = cond-ind (StaysMirrored opening b c) (eqb why 0) (λ e. h (eqb-true why 0 e)) (λ _. refused opening t b now c why)
 
 -- WHAT IS TO BE SHOWN of a change
 -- one record's value and word change
 pub words-show-set : (c : ℕ → Version) (values words values′ : List ℕ) (item word : ℕ) (x : Version) → WordsShow c values words →
-    ((j : ℕ) → j ≢ item → getD values′ j 0 ≡ getD values j 0) → item < length words → WordShows x (getD values′ item 0) word → WordsShow (changed item x c) values′ (set words item word)
+    ((j : ℕ) → j ≢ item → getD values′ j 0 ≡ getD values j 0) → item < length words → WordShows x (getD values′ item 0) word →
+    WordsShow (changed item x c) values′ (set words item word)
 words-show-set c values words values′ item word x h other l m =
     changed-ind (λ j z. j < length (set words item word) → WordShows z (getD values′ j 0) (getD (set words item word) j 0)) item x c
     (λ _. rw (getD-set-same words item word 0 l) m)
     (λ j n q. rw (other j n, getD-set-other words item j word 0 n) (h j (rw (length-set words item word) at q)))
 
 -- a table of the same lengths
-pub sized-same : {t : Tables} (u : Tables) → Sized t → length (u .values) ≡ length (t .values) → length (u .words) ≡ length (t .words) → length (u .seats) ≡ length (t .seats) → Sized u
+pub sized-same : {t : Tables} (u : Tables) → Sized t → length (u .values) ≡ length (t .values) → length (u .words) ≡ length (t .words) →
+    length (u .seats) ≡ length (t .seats) → Sized u
 sized-same u z a b c =
     record {
       same = a ∙ z .same ∙ sym b;
@@ -118,7 +121,8 @@ agree-others t u σ b d s rows seen S c seat g sized shown be v se other o =
     record {
       sized = sized;
       shown = shown;
-      rows = changed-ind (λ j z. z ≡ view (d .seats j .key) (row (u .seats) j)) s seat (σ .seat) (rw (be .own) v) (λ j n. rw (be .others j n, other j n) (rows j n));
+      rows = changed-ind (λ j z. z ≡ view (d .seats j .key) (row (u .seats) j)) s seat (σ .seat) (rw (be .own) v)
+          (λ j n. rw (be .others j n, other j n) (rows j n));
       seen = λ j. go j (ℕ-discrete j s);
       order = o;
     }
@@ -128,7 +132,8 @@ agree-others t u σ b d s rows seen S c seat g sized shown be v se other o =
     go j (no n) = rw (be .others j n, other j n) (seen j)
 
 module _ {t : Tables} {σ : State} {b : Observer} (h : Agree t σ b) (u : Tables) (c : ℕ → Version) (s : ℕ) (seat : Seat) (g : List ℕ)
-    (va : length (u .values) ≡ length (t .values)) (wo : length (u .words) ≡ length (t .words)) (shown : WordsShow c (u .values) (u .words)) (be : Becomes (t .seats) (u .seats) s g) where
+    (va : length (u .values) ≡ length (t .values)) (wo : length (u .words) ≡ length (t .words)) (shown : WordsShow c (u .values) (u .words))
+    (be : Becomes (t .seats) (u .seats) s g) where
   -- seat s is seen otherwise
   pub agree-seeing : (x : Seen) → seat ≡ view (x .key) g → (phase g ≢ 0 → SeenOk g x) →
       Agree u (record { order = σ .order; version = c; seat = changed s seat (σ .seat) }) (seeing b s x)

@@ -21,7 +21,7 @@ use Rattle.rows.specs.Search.{first-hit}
 use Rattle.rows.specs.Fine.{cond-ind, read-item, time-top, position-three, Fine, fine-row}
 use Rattle.rows.specs.Changed.{movedRow, Nudged, not-nudged, nudge-phase, nudge-position}
 use Rattle.rows.specs.Becomes.{becomes-put, becomes-moved}
-use Rattle.observer.specs.Observer.{Observer, onAdvance, changed, seeing, sealedAt, observe}
+use Rattle.observer.specs.Observer.{Seen, Observer, onAdvance, changed, seeing, sealedAt, observe}
 use Rattle.observer.proofs.Changes.{changed-same, changed-other}
 use Rattle.serial.specs.Statement.{Values, ranked}
 use Rattle.serial.proofs.Order.{serial-more}
@@ -36,7 +36,8 @@ use Rattle.serial.proofs.View.{entryAt, first-reads-are, seatOf, view, 
 use Rattle.serial.proofs.Agree.{WordShows, SeenOk, Mirrored, stampAt, StaysMirrored, words-show-set, sized-same, seen-nudged, agree-others, agree-seeing}
 use Rattle.serial.proofs.Release.{abort-ok}
 
-module _ (opening : Values) (t : Tables) (b : Observer) (now : Mirrored opening t b) (o s last : ℕ) (fi : Fine t o s 0 last) (three : phase (row (t .seats) s) ≡ 3) where
+module _ (opening : Values) (t : Tables) (b : Observer) (now : Mirrored opening t b) (o s last : ℕ) (fi : Fine t o s 0 last)
+    (three : phase (row (t .seats) s) ≡ 3) where
   abbrev g : List ℕ
   g = row (t .seats) s
 
@@ -89,21 +90,28 @@ module _ (opening : Values) (t : Tables) (b : Observer) (now : Mirrored opening 
     unfolding seatOf
     then = (λ i. checking stamp (sym (seg-more (entryAt g) p) i) others (writeEntries g)) ∙ sym (nudged-view on (b .seats s .key))
 
-    seen-on : SeenOk (set g positionAt (position g + 1)) (onAdvance (b .seats s) (Checked (checkItem g)))
-    unfolding onAdvance
-    seen-on = seen-nudged on (b .seats s) (onAdvance (b .seats s) (Checked (checkItem g))) seen refl refl (λ q. absurd (omega arith))
+    abbrev checked : Seen
+    checked = onAdvance (b .seats s) (Checked (checkItem g))
 
-    pass-mirrored : Passes x stamp (writeEntries g) e → Mirrored opening (tables (t .values) (t .words) (put (t .seats) s positionAt (position g + 1))) (seeing b s (onAdvance (b .seats s) (Checked (checkItem g))))
+    seen-on : SeenOk (set g positionAt (position g + 1)) checked
+    unfolding onAdvance
+    seen-on = seen-nudged on (b .seats s) checked seen refl refl (λ q. absurd (omega arith))
+
+    pass-mirrored : Passes x stamp (writeEntries g) e →
+        Mirrored opening (tables (t .values) (t .words) (put (t .seats) s positionAt (position g + 1))) (seeing b s checked)
     unfolding onAdvance
     pass-mirrored q =
         record {
           σ = reseat (now .σ) s (checking stamp (earlier ++ (e ∷ [])) others (writeEntries g));
           inv = passes opening (now .σ) (now .inv) s stamp earlier others (writeEntries g) e next q;
-          agree = agree-seeing (now .agree) (tables (t .values) (t .words) (put (t .seats) s positionAt (p + 1))) (now .σ .version) s _ (set g positionAt (p + 1)) refl refl (now .agree .shown)
-              (becomes-put (t .seats) s positionAt (p + 1) (omega arith)) (onAdvance (b .seats s) (Checked (checkItem g))) then (λ _. seen-on);
+          agree =
+              agree-seeing (now .agree) (tables (t .values) (t .words) (put (t .seats) s positionAt (p + 1))) (now .σ .version) s _
+              (set g positionAt (p + 1)) refl refl (now .agree .shown)
+              (becomes-put (t .seats) s positionAt (p + 1) (omega arith)) checked then (λ _. seen-on);
         }
 
-    extend-mirrored : writeTime word ≡ e .wrote → readTime word < time g → isLocked word ≡ false → Mirrored opening (tables (t .values) (stretched (t .words) g) (put (t .seats) s positionAt (position g + 1))) (seeing b s (onAdvance (b .seats s) (Checked (checkItem g))))
+    extend-mirrored : writeTime word ≡ e .wrote → readTime word < time g → isLocked word ≡ false →
+        Mirrored opening (tables (t .values) (stretched (t .words) g) (put (t .seats) s positionAt (position g + 1))) (seeing b s checked)
     unfolding stretched onAdvance
     extend-mirrored same early unlocked =
         let a = write≤read word in
@@ -119,11 +127,13 @@ module _ (opening : Values) (t : Tables) (b : Observer) (now : Mirrored opening 
           σ = reseat (reversion (now .σ) (e .told .item) y) s (checking stamp (earlier ++ (e ∷ [])) others (writeEntries g));
           inv = renews opening (now .σ) (now .inv) s stamp earlier others (writeEntries g) e (writeTime w) next (m .idle unlocked) (m .is-wrote ∙ same)
               (omega arith) (omega (arith, m .is-upTo));
-          agree = agree-seeing (now .agree) (tables (t .values) (set (t .words) (e .told .item) w) (put (t .seats) s positionAt (p + 1))) (changed (e .told .item) y (now .σ .version)) s _ (set g positionAt (p + 1))
+          agree =
+              agree-seeing (now .agree) (tables (t .values) (set (t .words) (e .told .item) w) (put (t .seats) s positionAt (p + 1)))
+              (changed (e .told .item) y (now .σ .version)) s _ (set g positionAt (p + 1))
               refl (length-set (t .words) (e .told .item) w)
               (words-show-set (now .σ .version) (t .values) (t .words) (t .values) (e .told .item) w y (now .agree .shown) (λ j d. refl) in-words
               (record { is-value = m .is-value; is-wrote = refl; is-upTo = kt ∙ sym (is .is-read); idle = λ q. m .idle (sym (is .is-locked) ∙ q) }))
-              (becomes-put (t .seats) s positionAt (p + 1) (omega arith)) (onAdvance (b .seats s) (Checked (checkItem g))) then (λ _. seen-on);
+              (becomes-put (t .seats) s positionAt (p + 1) (omega arith)) checked then (λ _. seen-on);
         }
 
     -- the seat writes the record too
@@ -155,7 +165,8 @@ module _ (opening : Values) (t : Tables) (b : Observer) (now : Mirrored opening 
 
   -- THE SEAL, all reads checked
   module _ (all : position g ≡ reads g) where
-    marked-shows : (item : ℕ) → item < length (t .words) → (d : Named item (writeEntries g) ⊎ Absent item (writeEntries g)) → WordShows (marked stamp d (now .σ .version item)) (getD (t .values) item 0) (getD (t .words) item 0)
+    marked-shows : (item : ℕ) → item < length (t .words) → (d : Named item (writeEntries g) ⊎ Absent item (writeEntries g)) →
+        WordShows (marked stamp d (now .σ .version item)) (getD (t .values) item 0) (getD (t .words) item 0)
     marked-shows item l (inl q) =
         let z : WordShows (now .σ .version item) (getD (t .values) item 0) (getD (t .words) item 0) = now .agree .shown item l in
         record { is-value = z .is-value; is-wrote = z .is-wrote; is-upTo = z .is-upTo; idle = z .idle }
@@ -174,7 +185,9 @@ module _ (opening : Values) (t : Tables) (b : Observer) (now : Mirrored opening 
         record {
           σ = sealed (now .σ) s stamp ok ws;
           inv = seal-inv opening (now .σ) s stamp ok ws (is-checking ∙ rw (seg-end (entryAt g) (position g) (reads g) (omega arith))) (now .inv);
-          agree = agree-others t (tables (t .values) (t .words) (moved (t .seats) s 4 0)) (now .σ) b (observe b (Advance o s) (Sealed (time g))) s (λ j d. now .agree .rows j) (now .agree .seen)
+          agree =
+              agree-others t (tables (t .values) (t .words) (moved (t .seats) s 4 0)) (now .σ) b (observe b (Advance o s) (Sealed (time g))) s
+              (λ j d. now .agree .rows j) (now .agree .seen)
               (ranked (transactionOf stamp ok ws) (now .σ .order)) (allMarked stamp ws (now .σ .version)) (storing stamp ws) (movedRow g 4 0)
               (sized-same (tables (t .values) (t .words) (moved (t .seats) s 4 0)) (now .agree .sized) refl refl (becomes-moved (t .seats) s 4 0 .size))
               (λ item l. marked-shows item l (find item ws)) (becomes-moved (t .seats) s 4 0)
@@ -182,7 +195,8 @@ module _ (opening : Values) (t : Tables) (b : Observer) (now : Mirrored opening 
               (λ _. rw (changed-same s x (b .seats)) (seen-nudged n z x seen refl refl
               (λ _. ap length (sym (seen .shows .is-writes)) ∙ length-seg (writeAt g) (writes g) 0 ∙ (let q : writes g ≡ writes g - 0 = omega arith in q))))
               (λ j d. changed-other s x (b .seats) j d)
-              ((λ i. ranked (record { time = time g; key = z .key; reads = rs i; writes = seen .shows .is-writes i }) (now .agree .order i)) ∙ sym (serial-more (b .sealed) T));
+              ((λ i. ranked (record { time = time g; key = z .key; reads = rs i; writes = seen .shows .is-writes i }) (now .agree .order i))
+              ∙ sym (serial-more (b .sealed) T));
         }
 
   pub check-phase-ok : StaysMirrored opening b (Advance o s) (checkPhase t s)

@@ -54,7 +54,8 @@ last-is (T ∷ S) U i =
     ⊎-elim (λ (e : U ≡ T). rw e (omega arith)) (λ (j : In U S). let h = last-is S U j in omega arith) (uncons i)
 
 -- WITH NO STORE LEFT, the versions have the values that the run comes to
-pub inv-final : (opening : Values) (σ : State) → Inv opening σ → ((s item : ℕ) → StoreLeft (σ .seat s) item → ⊥) → (item : ℕ) → valuesAfterAll (σ .order) opening item ≡ σ .version item .value
+pub inv-final : (opening : Values) (σ : State) → Inv opening σ → ((s item : ℕ) → StoreLeft (σ .seat s) item → ⊥) → (item : ℕ) →
+    valuesAfterAll (σ .order) opening item ≡ σ .version item .value
 inv-final opening σ h n item =
     sym (upto-all u (σ .order) opening item (λ U i. let l = last-is (σ .order) U i in omega arith)) ∙ go (σ .version item .due) refl
   where

@@ -12,7 +12,8 @@ use Rattle.serial.specs.Statement.{Values, Right}
 use Rattle.serial.specs.Order.{Sorted}
 use Rattle.serial.proofs.Timeline.{Named}
 use Rattle.serial.proofs.Protocol.{none-some, Stamp, Due, Version, ReadEntry, Seat, State}
-use Rattle.serial.proofs.Protocol.{free, working, checking, storing, closed, StoreLeft, Holds, KeyIsTime, Fits, Below, val, VersionOk, EntryOk, Covered, Held, SeatOk, Inv, upTo-closed}
+use Rattle.serial.proofs.Protocol.{free, working, checking, storing, closed, StoreLeft, Holds, KeyIsTime, Fits, Below, val}
+use Rattle.serial.proofs.Protocol.{VersionOk, EntryOk, Covered, Held, SeatOk, Inv, upTo-closed}
 
 module _ (opening : Values) where
   -- WHAT A STEP MAY DO TO A VERSION
@@ -44,10 +45,17 @@ module _ (opening : Values) where
   -- of what it does not hold nothing is asked
   pub stays-other : (s : ℕ) (S S′ : List Transaction) (item : ℕ) (x y : Version) → (x .holder ≡ some s → ⊥) → Stays s S S′ item x y
   stays-other s S S′ item x y n =
-      record { same-holder = λ p. absurd (n p); same-wrote = λ p. absurd (n p); same-upTo = λ p. absurd (n p); same-due = λ p. absurd (n p); same-run = λ p u. absurd (n p) }
+      record {
+        same-holder = λ p. absurd (n p);
+        same-wrote = λ p. absurd (n p);
+        same-upTo = λ p. absurd (n p);
+        same-due = λ p. absurd (n p);
+        same-run = λ p u. absurd (n p);
+      }
 
   -- so every other seat stays right
-  module _ (S S′ : List Transaction) (c c′ : ℕ → Version) (ok : (item : ℕ) → VersionOk opening S item (c item)) (grow : (item : ℕ) → Grows S S′ item (c item) (c′ item)) where
+  module _ (S S′ : List Transaction) (c c′ : ℕ → Version) (ok : (item : ℕ) → VersionOk opening S item (c item))
+      (grow : (item : ℕ) → Grows S S′ item (c item) (c′ item)) where
     pub entry-later : (e : ReadEntry) → EntryOk opening S (c (e .told .item)) e → EntryOk opening S′ (c′ (e .told .item)) e
     entry-later e h =
         let l = grow (e .told .item) in
@@ -73,7 +81,8 @@ module _ (opening : Values) where
           let l = st (w .item) in
           record { key = rw (l .same-upTo (h .mine)) (b .key); time = rw (l .same-wrote (h .mine)) (b .time) }
 
-      covered-later : (key : ℕ) (ws : List WriteEntry) (e : ReadEntry) → ((w : WriteEntry) → In w ws → c (w .item) .holder ≡ some s) → Covered opening S (c (e .told .item)) key ws e → Covered opening S′ (c′ (e .told .item)) key ws e
+      covered-later : (key : ℕ) (ws : List WriteEntry) (e : ReadEntry) → ((w : WriteEntry) → In w ws → c (w .item) .holder ≡ some s) →
+          Covered opening S (c (e .told .item)) key ws e → Covered opening S′ (c′ (e .told .item)) key ws e
       covered-later key ws e m h = go (h .safe)
         where
           go : (key ≤ closed (c (e .told .item))) ⊎ Named (e .told .item) ws → Covered opening S′ (c′ (e .told .item)) key ws e
@@ -115,7 +124,8 @@ module _ (opening : Values) where
         sorted = so;
         right = ri;
         versions = ve;
-        seats = changed-ind (SeatOk opening S c) s seat (σ .seat) se (λ j n. seat-later (σ .order) S (σ .version) c (h .versions) grow j (st j n) (σ .seat j) (h .seats j));
+        seats = changed-ind (SeatOk opening S c) s seat (σ .seat) se
+            (λ j n. seat-later (σ .order) S (σ .version) c (h .versions) grow j (st j n) (σ .seat j) (h .seats j));
         by-time = record { seats = changed-ind (λ j z. KeyIsTime z) s seat (σ .seat) at (λ j n. h .by-time .seats j); sealed = ti };
         holders = ho;
       }
@@ -157,7 +167,8 @@ module _ (opening : Values) where
       step σ (σ .order) (changed item x (σ .version)) s seat h (h .sorted) (h .right)
       (changed-ind (VersionOk opening (σ .order)) item x (σ .version) ve (λ q n. h .versions q))
       (grows-one σ item x grow)
-      (λ j n. changed-ind (λ q y. Stays j (σ .order) (σ .order) q (σ .version q) y) item x (σ .version) (st j n) (λ q m. stays-none j (σ .order) q (σ .version q)))
+      (λ j n. changed-ind (λ q y. Stays j (σ .order) (σ .order) q (σ .version q) y) item x (σ .version) (st j n)
+      (λ q m. stays-none j (σ .order) q (σ .version q)))
       se at (h .by-time .sealed) ho
 
   -- one version changes that nobody holds
@@ -171,10 +182,13 @@ module _ (opening : Values) where
         right = h .right;
         versions = changed-ind (VersionOk opening (σ .order)) item x (σ .version) ve (λ q n. h .versions q);
         seats = λ j. seat-later (σ .order) (σ .order) (σ .version) (changed item x (σ .version)) (h .versions) (grows-one σ item x grow) j
-            (changed-ind (λ q y. Stays j (σ .order) (σ .order) q (σ .version q) y) item x (σ .version) (stays-other j (σ .order) (σ .order) item (σ .version item) x (none-some (σ .version item .holder) j o)) (λ q m. stays-none j (σ .order) q (σ .version q)))
+            (changed-ind (λ q y. Stays j (σ .order) (σ .order) q (σ .version q) y) item x (σ .version)
+            (stays-other j (σ .order) (σ .order) item (σ .version item) x (none-some (σ .version item .holder) j o))
+            (λ q m. stays-none j (σ .order) q (σ .version q)))
             (σ .seat j) (h .seats j);
         by-time = h .by-time;
-        holders = λ q s. changed-ind (λ i y. y .holder ≡ some s → Holds (σ .seat s) i) item x (σ .version) (λ e. absurd (none-some (x .holder) s p e)) (λ i n. h .holders i s) q;
+        holders = λ q s. changed-ind (λ i y. y .holder ≡ some s → Holds (σ .seat s) i) item x (σ .version) (λ e. absurd (none-some (x .holder) s p e))
+            (λ i n. h .holders i s) q;
       }
 
   -- what is due is left at the seat that holds the lock

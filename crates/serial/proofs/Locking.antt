@@ -30,7 +30,8 @@ use Rattle.serial.proofs.View.{entryAt, readEntries, seatOf, view-early
 use Rattle.serial.proofs.Agree.{WordShows, Mirrored, StaysMirrored, words-show-set, seen-nudged, agree-seeing}
 use Rattle.serial.proofs.Release.{lock-shows, abort-ok}
 
-module _ (opening : Values) (t : Tables) (b : Observer) (now : Mirrored opening t b) (o s last : ℕ) (fi : Fine t o s 0 last) (phase12 : phase (row (t .seats) s) ≤ 2) where
+module _ (opening : Values) (t : Tables) (b : Observer) (now : Mirrored opening t b) (o s last : ℕ) (fi : Fine t o s 0 last)
+    (phase12 : phase (row (t .seats) s) ≤ 2) where
   abbrev g : List ℕ
   g = row (t .seats) s
 
@@ -44,9 +45,12 @@ module _ (opening : Values) (t : Tables) (b : Observer) (now : Mirrored opening 
   known i l = write-item g (length (t .words)) (fi .sound) i l
 
   -- THE LOCK of the write entry at position
-  lock-mirrored : position g < writes g → isLocked (getD (t .words) (writeItem g (position g)) 0) ≡ false →
-      Mirrored opening (tables (t .values) (set (t .words) (writeItem g (position g)) (withLock true (getD (t .words) (writeItem g (position g)) 0))) (moved (t .seats) s 2 (position g + 1)))
-      (seeing b s (onAdvance (b .seats s) (Locked (writeItem g (position g)))))
+  abbrev item : ℕ
+  item = writeItem g (position g)
+
+  lock-mirrored : position g < writes g → isLocked (getD (t .words) item 0) ≡ false →
+      Mirrored opening (tables (t .values) (set (t .words) item (withLock true (getD (t .words) item 0))) (moved (t .seats) s 2 (position g + 1)))
+      (seeing b s (onAdvance (b .seats s) (Locked item)))
   unfolding seatOf onAdvance
   lock-mirrored l u =
       let p = position g in
@@ -59,7 +63,9 @@ module _ (opening : Values) (t : Tables) (b : Observer) (now : Mirrored opening 
       record {
         σ = reseat (reversion (now .σ) (w .item) y) s (working (readEntries g) (seg (writeAt g) 0 p ++ (w ∷ [])));
         inv = locks opening (now .σ) (now .inv) s (readEntries g) (seg (writeAt g) 0 p) w is-working (m .idle u);
-        agree = agree-seeing (now .agree) (tables (t .values) (set (t .words) (w .item) (withLock true word)) (moved (t .seats) s 2 (p + 1))) (changed (w .item) y (now .σ .version)) s _ (movedRow g 2 (p + 1))
+        agree =
+            agree-seeing (now .agree) (tables (t .values) (set (t .words) (w .item) (withLock true word)) (moved (t .seats) s 2 (p + 1)))
+            (changed (w .item) y (now .σ .version)) s _ (movedRow g 2 (p + 1))
             refl (length-set (t .words) (w .item) (withLock true word))
             (words-show-set (now .σ .version) (t .values) (t .words) (t .values) (w .item) (withLock true word) y (now .agree .shown) (λ j d. refl) (known p l)
             (lock-shows (some s) true (now .σ .version (w .item)) (getD (t .values) (w .item) 0) word m (λ q. absurd (true≢false q))))
@@ -88,7 +94,8 @@ module _ (opening : Values) (t : Tables) (b : Observer) (now : Mirrored opening 
         let z = seg-in (writeAt g) (writes g) 0 w i in
         let j : z .0 < writes g = omega (arith, z .2) in
         let c = commit-above (t .words) g (z .0) j in
-        let m : WordShows (now .σ .version (writeItem g (z .0))) (getD (t .values) (writeItem g (z .0)) 0) (getD (t .words) (writeItem g (z .0)) 0) = now .agree .shown (writeItem g (z .0)) (known (z .0) j) in
+        let at = writeItem g (z .0) in
+        let m : WordShows (now .σ .version at) (getD (t .values) at 0) (getD (t .words) at 0) = now .agree .shown at (known (z .0) j) in
         let e = write≤read (getD (t .words) (writeItem g (z .0)) 0) in
         rw (z .3) (record { key = omega (arith, m .is-upTo); time = omega (arith, m .is-wrote) })
 
@@ -100,7 +107,9 @@ module _ (opening : Values) (t : Tables) (b : Observer) (now : Mirrored opening 
         record {
           σ = reseat (now .σ) s (checking stamp [] (readEntries g) (writeEntries g));
           inv = times opening (now .σ) (now .inv) s stamp (readEntries g) (writeEntries g) (is-working ∙ rw all) refl fits below;
-          agree = agree-seeing (now .agree) (tables (t .values) (t .words) (put (moved (t .seats) s 3 0) s timeAt tc)) (now .σ .version) s _ (set (movedRow g 3 0) timeAt tc) refl refl (now .agree .shown)
+          agree =
+              agree-seeing (now .agree) (tables (t .values) (t .words) (put (moved (t .seats) s 3 0) s timeAt tc)) (now .σ .version) s _
+              (set (movedRow g 3 0) timeAt tc) refl refl (now .agree .shown)
               (then-put timeAt tc (omega arith) (becomes-moved (t .seats) s 3 0)) x
               ((λ i. checking stamp [] (sym (seg-whole (entryAt g) (reads g)) i) (writeEntries g)) ∙ sym (nudged-view n tc))
               (λ _. seen-nudged n (b .seats s) x (now .agree .seen s (fi .used)) refl refl (λ q. absurd (omega arith)));
@@ -110,5 +119,7 @@ module _ (opening : Values) (t : Tables) (b : Observer) (now : Mirrored opening 
   unfolding lockPhase lockStep timeStep observe onAdvance
   lock-ok =
       cond-ind (StaysMirrored opening b (Advance o s)) (ltb (position g) (writes g))
-      (λ l. cond-ind (StaysMirrored opening b (Advance o s)) (isLocked (getD (t .words) (writeItem g (position g)) 0)) (λ _. abort-ok opening t b now o s last fi 21 (omega arith)) (λ u. lock-mirrored (ltb-true _ _ l) u))
-      (λ l. cond-ind (StaysMirrored opening b (Advance o s)) (ltb top (commitTime (t .words) g)) (λ _. abort-ok opening t b now o s last fi 24 (omega arith)) (λ _. time-mirrored (omega (arith, low, ltb-false (position g) (writes g) l))))
+      (λ l. cond-ind (StaysMirrored opening b (Advance o s)) (isLocked (getD (t .words) item 0))
+      (λ _. abort-ok opening t b now o s last fi 21 (omega arith)) (λ u. lock-mirrored (ltb-true _ _ l) u))
+      (λ l. cond-ind (StaysMirrored opening b (Advance o s)) (ltb top (commitTime (t .words) g))
+      (λ _. abort-ok opening t b now o s last fi 24 (omega arith)) (λ _. time-mirrored (omega (arith, low, ltb-false (position g) (writes g) l))))

@@ -3,8 +3,12 @@ use Prim.Native.Nat.{ℕ, _≤_, _<_}
 use mathlib.Core.Path.{_≡_, refl, sym, ap, _∙_}
 use mathlib.Core.Logic.{_⊎_, inl, inr, ⊎-elim}
 use mathlib.Core.Bool.{Bool, true, false, cond}
-use mathlib.Core.List.{List, [], _∷_, _++_, append-assoc, append-nil, nil≢cons, head-eq-of-cons-eq, tail-eq-of-cons-eq, List·Memᴰ as In, List·Memᴰ·head as here, List·Memᴰ·tail as there, List·Memᴰ·cases-cons as uncons, List·Memᴰ·not-nil as not-nil, List·Memᴰ·eq-of-singleton as eq-of-singleton}
-use mathlib.Core.List.{List·Permᴰ as Permutation, List·Permᴰ·cons as perm-cons, List·Permᴰ·swap as perm-swap, List·Permᴰ·trans as perm-trans, Permᴰ·refl as perm-refl, Permᴰ·middle as perm-middle, Permᴰ·append-right as perm-append, Permᴰ·append-nil as perm-nil}
+use mathlib.Core.List.{List, [], _∷_, _++_, append-assoc, append-nil, nil≢cons, head-eq-of-cons-eq, tail-eq-of-cons-eq, List·Memᴰ as In}
+use mathlib.Core.List.{List·Memᴰ·head as here, List·Memᴰ·tail as there, List·Memᴰ·cases-cons as uncons, List·Memᴰ·not-nil as not-nil}
+use mathlib.Core.List.{List·Memᴰ·eq-of-singleton as eq-of-singleton}
+use mathlib.Core.List.{List·Permᴰ as Permutation, List·Permᴰ·cons as perm-cons, List·Permᴰ·swap as perm-swap}
+use mathlib.Core.List.{List·Permᴰ·trans as perm-trans, Permᴰ·refl as perm-refl, Permᴰ·middle as perm-middle}
+use mathlib.Core.List.{Permᴰ·append-right as perm-append, Permᴰ·append-nil as perm-nil}
 use native.Mathlib.Omega.{arith}
 use native.Mathlib.Decide.{decLt}
 use borrow.Author.Tests.{eqb-true, leb-true, leb-false, eq-eqb, ne-eqb}
@@ -35,7 +39,8 @@ module _ (T : Transaction) where
   in-ranked [] U i = inl (eq-of-singleton i)
   in-ranked (Z ∷ S) U i =
       cond-ind (λ (l : List Transaction). In U l → (U ≡ T) ⊎ In U (Z ∷ S)) (precedes Z T)
-      (λ _ i. ⊎-elim (λ (e : U ≡ Z). inr (here e)) (λ (j : In U (ranked T S)). ⊎-elim (λ (e : U ≡ T). inl e) (λ (m : In U S). inr (there m)) (in-ranked S U j)) (uncons i))
+      (λ _ i. ⊎-elim (λ (e : U ≡ Z). inr (here e))
+      (λ (j : In U (ranked T S)). ⊎-elim (λ (e : U ≡ T). inl e) (λ (m : In U S). inr (there m)) (in-ranked S U j)) (uncons i))
       (λ _ i. uncons i)
       i
 
@@ -51,7 +56,8 @@ module _ (T : Transaction) where
   unfolding ranked
   permuted-ranked [] = perm-refl (T ∷ [])
   permuted-ranked (Z ∷ S) =
-      cond-ind (Permutation (T ∷ Z ∷ S)) (precedes Z T) (λ _. perm-trans (perm-swap refl refl) (perm-cons refl (permuted-ranked S))) (λ _. perm-refl (T ∷ Z ∷ S))
+      cond-ind (Permutation (T ∷ Z ∷ S)) (precedes Z T) (λ _. perm-trans (perm-swap refl refl) (perm-cons refl (permuted-ranked S)))
+      (λ _. perm-refl (T ∷ Z ∷ S))
 
 -- all that are ranked are there
 ranked-in : (T U : Transaction) (S : List Transaction) → (U ≡ T) ⊎ In U S → In U (ranked T S)
@@ -88,7 +94,8 @@ stable-ranked T k (Z ∷ S) s =
     (λ _. within (eqb (Z .key) k) (stable-ranked T k S (s .1)))
     (λ a. first (eqb (T .key) k) refl (precedes-no Z T a))
   where
-    within : (b : Bool) → withKey k (ranked T S) ≡ withKey k S ++ withKey k (T ∷ []) → cond b (Z ∷ withKey k (ranked T S)) (withKey k (ranked T S)) ≡ cond b (Z ∷ withKey k S) (withKey k S) ++ withKey k (T ∷ [])
+    within : (b : Bool) → withKey k (ranked T S) ≡ withKey k S ++ withKey k (T ∷ []) →
+        cond b (Z ∷ withKey k (ranked T S)) (withKey k (ranked T S)) ≡ cond b (Z ∷ withKey k S) (withKey k S) ++ withKey k (T ∷ [])
     within true e = ap (λ (l : List Transaction). Z ∷ l) e
     within false e = e
 

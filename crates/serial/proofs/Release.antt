@@ -35,7 +35,8 @@ use Rattle.serial.proofs.View.{readEntries, seatOf, view-early, view-ch
 use Rattle.serial.proofs.Agree.{WordShows, WordsShow, Mirrored, StaysMirrored, words-show-set, sized-same, agree-others}
 
 -- the word of a version whose lock is given, or given back
-pub lock-shows : (o : Option ℕ) (l : Bool) (x : Version) (v word : ℕ) → WordShows x v word → (l ≡ false → o ≡ none) → WordShows (withHolder o x) v (withLock l word)
+pub lock-shows : (o : Option ℕ) (l : Bool) (x : Version) (v word : ℕ) → WordShows x v word → (l ≡ false → o ≡ none) →
+    WordShows (withHolder o x) v (withLock l word)
 lock-shows o l x v word z idle =
     let w = withLock-is l word in
     record {
@@ -54,7 +55,8 @@ record GivenBack (opening : Values) (values words g : List ℕ) (s m : ℕ) (rs 
   others : (j : ℕ) → j ≢ s → to .seat j ≡ σ .seat j
   left : to .seat s ≡ working rs (seg (writeAt g) n (m - n))
 
-module _ (opening : Values) (values words g : List ℕ) (s m : ℕ) (rs : List ReadEntry) (σ : State) (inv : Inv opening σ) (shown : WordsShow (σ .version) values words)
+module _ (opening : Values) (values words g : List ℕ) (s m : ℕ) (rs : List ReadEntry) (σ : State) (inv : Inv opening σ)
+    (shown : WordsShow (σ .version) values words)
     (e : σ .seat s ≡ working rs (seg (writeAt g) 0 m)) (known : (i : ℕ) → i < m → writeItem g i < length words) where
   given-back : (n : ℕ) → n ≤ m → GivenBack opening values words g s m rs σ n
   unfolding released
@@ -79,7 +81,8 @@ module _ (opening : Values) (values words g : List ℕ) (s m : ℕ) (rs : List R
       }
 
 -- from any state that agrees but for seat s, which holds the locks of the first n write entries of its row
-gone : (opening : Values) (t : Tables) (b : Observer) (now : Mirrored opening t b) (s n : ℕ) (rs : List ReadEntry) (σ : State) → Inv opening σ → WordsShow (σ .version) (t .values) (t .words) →
+gone : (opening : Values) (t : Tables) (b : Observer) (now : Mirrored opening t b) (s n : ℕ) (rs : List ReadEntry) (σ : State) → Inv opening σ →
+    WordsShow (σ .version) (t .values) (t .words) →
     σ .order ≡ now .σ .order → ((j : ℕ) → j ≢ s → σ .seat j ≡ now .σ .seat j) → σ .seat s ≡ working rs (seg (writeAt (row (t .seats) s)) 0 n) →
     ((i : ℕ) → i < n → writeItem (row (t .seats) s) i < length (t .words)) → length (row (t .seats) s) ≡ rowWidth →
     Mirrored opening (tables (t .values) (released (t .words) (row (t .seats) s) n) (freed (t .seats) s)) (seeing b s unseen)
@@ -91,8 +94,11 @@ gone opening t b now s n rs σ inv shown o other e known size =
     record {
       σ = reseat (p .to) s free;
       inv = leaves opening (p .to) (p .inv) s rs (p .left ∙ rw (seg-end (writeAt g) n n (omega arith)));
-      agree = agree-others t _ (p .to) b (seeing b s unseen) s (λ j d. p .others j d ∙ other j d ∙ now .agree .rows j) (now .agree .seen) (p .to .order) (p .to .version) free freeRow
-          (sized-same (tables (t .values) (released (t .words) g n) (freed (t .seats) s)) (now .agree .sized) refl (length-released (t .words) g n) (be .size)) (p .shown) be
+      agree =
+          agree-others t _ (p .to) b (seeing b s unseen) s (λ j d. p .others j d ∙ other j d ∙ now .agree .rows j) (now .agree .seen) (p .to .order)
+          (p .to .version) free freeRow
+          (sized-same (tables (t .values) (released (t .words) g n) (freed (t .seats) s)) (now .agree .sized) refl (length-released (t .words) g n)
+          (be .size)) (p .shown) be
           refl (λ d. absurd (d refl)) (λ j d. changed-other s unseen (b .seats) j d) (p .order ∙ o ∙ now .agree .order);
     }
 

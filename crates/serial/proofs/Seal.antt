@@ -10,7 +10,8 @@ use Rattle.serial.specs.Statement.{Values, applied, Right, ranked}
 use Rattle.serial.specs.Order.{Sorted}
 use Rattle.serial.proofs.Order.{in-ranked, sorted-ranked}
 use Rattle.serial.proofs.Timeline.{Named, Absent, find, distinct-same, written-named, upto-below, upto-absent, upto-above, right-ranked}
-use Rattle.serial.proofs.Protocol.{Stamp, Due, Version, ReadEntry, State, checking, storing, closed, Below, none-some, some-same, val, VersionOk, CheckingOk, Inv}
+use Rattle.serial.proofs.Protocol.{Stamp, Due, Version, ReadEntry, State, checking, storing, closed, Below, none-some, some-same}
+use Rattle.serial.proofs.Protocol.{val, VersionOk, CheckingOk, Inv}
 use Rattle.serial.proofs.Growth.{Grows, Stays, stays-other, step, keep-holds}
 use Rattle.serial.proofs.Versions.{quiet}
 
@@ -69,7 +70,8 @@ module _ (opening : Values) (S : List Transaction) (c : ℕ → Version) (so : S
   read-closed item a e i q =
       let m = in-map firstReadOf ok i in
       let n : m .0 .told .item ≡ item = ap (λ (z : FirstRead). z .item) (m .2) ∙ q in
-      ⊎-elim (λ (p : t .key ≤ closed (c (m .0 .told .item))). rw n at p) (λ (p : Named (m .0 .told .item) ws). absurd (a (p .0) (p .1) (p .2 ∙ n))) (h .passed (m .0) (m .1) .safe)
+      ⊎-elim (λ (p : t .key ≤ closed (c (m .0 .told .item))). rw n at p) (λ (p : Named (m .0 .told .item) ws). absurd (a (p .0) (p .1) (p .2 ∙ n)))
+      (h .passed (m .0) (m .1) .safe)
 
   seal-right : Right S opening → Right (ranked T S) opening
   seal-right ri =
@@ -88,8 +90,10 @@ module _ (opening : Values) (S : List Transaction) (c : ℕ → Version) (so : S
         due-held = λ e. absurd (none-some (c item .holder) s e (named-mine item p));
         up-to-due = λ u a b. below item u (b (record { stamp = t; entry = p .0 }) refl) ∙ quiet opening S item (c item) (ve item) (named-idle item p) u a;
         from-due = λ u a. above item p u a;
-        readers = λ U i e j q. ⊎-elim (λ (z : U ≡ T). rw z (omega arith)) (λ (z : In U S). let y = named-early item p (U .key) (ve item .readers U z e j q) in omega arith) (in-ranked T S U i);
-        writers = λ U i w j q. ⊎-elim (λ (z : U ≡ T). rw z (omega arith)) (λ (z : In U S). let y = named-early item p (U .key) (ve item .writers U z w j q) in omega arith) (in-ranked T S U i);
+        readers = λ U i e j q. ⊎-elim (λ (z : U ≡ T). rw z (omega arith))
+            (λ (z : In U S). let y = named-early item p (U .key) (ve item .readers U z e j q) in omega arith) (in-ranked T S U i);
+        writers = λ U i w j q. ⊎-elim (λ (z : U ≡ T). rw z (omega arith))
+            (λ (z : In U S). let y = named-early item p (U .key) (ve item .writers U z w j q) in omega arith) (in-ranked T S U i);
       }
     where
       is : (d : Due) → some (record { stamp = t; entry = p .0 }) ≡ some d → d .stamp ≡ t
@@ -102,7 +106,8 @@ module _ (opening : Values) (S : List Transaction) (c : ℕ → Version) (so : S
         due-held = ve item .due-held;
         up-to-due = λ u p q. aside item a u ∙ ve item .up-to-due u p q;
         from-due = λ u p. aside item a u ∙ ve item .from-due u p;
-        readers = λ U i e j q. ⊎-elim (λ (z : U ≡ T). rw z (read-closed item a e (rw z at j) q)) (λ (z : In U S). ve item .readers U z e j q) (in-ranked T S U i);
+        readers = λ U i e j q. ⊎-elim (λ (z : U ≡ T). rw z (read-closed item a e (rw z at j) q)) (λ (z : In U S). ve item .readers U z e j q)
+            (in-ranked T S U i);
         writers = λ U i w j q. ⊎-elim (λ (z : U ≡ T). absurd (a w (rw z at j) q)) (λ (z : In U S). ve item .writers U z w j q) (in-ranked T S U i);
       }
 
@@ -131,7 +136,8 @@ module _ (opening : Values) (S : List Transaction) (c : ℕ → Version) (so : S
   marked-mine w i (inl p) = h .held w i .mine
   marked-mine w i (inr a) = absurd (a w i refl)
 
-  marked-due : (w : WriteEntry) → In w ws → (d : Named (w .item) ws ⊎ Absent (w .item) ws) → marked t d (c (w .item)) .due ≡ some (record { stamp = t; entry = w })
+  marked-due : (w : WriteEntry) → In w ws → (d : Named (w .item) ws ⊎ Absent (w .item) ws) →
+      marked t d (c (w .item)) .due ≡ some (record { stamp = t; entry = w })
   marked-due w i (inl p) = ap (λ (z : WriteEntry). some (record { stamp = t; entry = z })) (distinct-same ws (p .0) w (h .distinct) (p .1) i (p .2))
   marked-due w i (inr a) = absurd (a w i refl)
 
@@ -140,7 +146,8 @@ abbrev pub sealed : State → ℕ → Stamp → List ReadEntry → List WriteEnt
 sealed σ s t ok ws =
     record { order = ranked (transactionOf t ok ws) (σ .order); version = allMarked t ws (σ .version); seat = changed s (storing t ws) (σ .seat) }
 
-pub seal-inv : (opening : Values) (σ : State) (s : ℕ) (t : Stamp) (ok : List ReadEntry) (ws : List WriteEntry) → σ .seat s ≡ checking t ok [] ws → Inv opening σ → Inv opening (sealed σ s t ok ws)
+pub seal-inv : (opening : Values) (σ : State) (s : ℕ) (t : Stamp) (ok : List ReadEntry) (ws : List WriteEntry) → σ .seat s ≡ checking t ok [] ws →
+    Inv opening σ → Inv opening (sealed σ s t ok ws)
 seal-inv opening σ s t ok ws e h =
     step opening σ (ranked (transactionOf t ok ws) (σ .order)) (allMarked t ws (σ .version)) s (storing t ws) h
     (sorted-ranked (transactionOf t ok ws) (σ .order) (h .sorted))
@@ -154,7 +161,8 @@ seal-inv opening σ s t ok ws e h =
       distinct = ck .distinct;
     })
     timed
-    (λ U i. ⊎-elim (λ (z : U ≡ transactionOf t ok ws). rw z timed) (λ (z : In U (σ .order)). h .by-time .sealed U z) (in-ranked (transactionOf t ok ws) (σ .order) U i))
+    (λ U i. ⊎-elim (λ (z : U ≡ transactionOf t ok ws). rw z timed) (λ (z : In U (σ .order)). h .by-time .sealed U z)
+    (in-ranked (transactionOf t ok ws) (σ .order) U i))
     (λ item j q. keep-holds opening σ s (storing t ws) h item (rw e (λ z. z)) j (sym (same-holder item (find item ws)) ∙ q))
   where
     ck : CheckingOk opening (σ .order) (σ .version) s t ok [] ws

@@ -3,13 +3,17 @@ use Prim.Native.Nat.{ℕ, _≤_}
 use mathlib.Core.Path.{_≡_, refl, sym, ap, _∙_}
 use mathlib.Core.Logic.{inl, inr, ⊎-elim, _≢_}
 use mathlib.Core.Option.{none, some}
-use mathlib.Core.List.{List, [], _∷_, _++_, List·Memᴰ as In, List·Memᴰ·head as here, List·Memᴰ·tail as there, List·Memᴰ·cases-cons as uncons, List·Memᴰ·append-cases as append-cases, List·Memᴰ·eq-of-singleton as eq-of-singleton, List·Memᴰ·not-nil as not-nil, Memᴰ·append-left as append-left, Memᴰ·append-right as append-right}
+use mathlib.Core.List.{List, [], _∷_, _++_, List·Memᴰ as In, List·Memᴰ·head as here, List·Memᴰ·tail as there}
+use mathlib.Core.List.{List·Memᴰ·cases-cons as uncons, List·Memᴰ·append-cases as append-cases, List·Memᴰ·eq-of-singleton as eq-of-singleton}
+use mathlib.Core.List.{List·Memᴰ·not-nil as not-nil, Memᴰ·append-left as append-left, Memᴰ·append-right as append-right}
 use native.Mathlib.Omega.{arith}
 use Rattle.observer.specs.Observer.{WriteEntry, Transaction, changed}
 use Rattle.observer.proofs.Changes.{changed-same, changed-other, changed-ind}
 use Rattle.serial.specs.Statement.{Values}
 use Rattle.serial.proofs.Timeline.{Named, Distinct, distinct-more}
-use Rattle.serial.proofs.Protocol.{Stamp, Version, ReadEntry, Seat, State, free, working, checking, storing, Holds, Fits, Below, none-some, some-same, VersionOk, EntryOk, Covered, WorkingOk, CheckingOk, StoringOk, Inv, upTo-closed}
+use Rattle.serial.proofs.Protocol.{Stamp, Version, ReadEntry, Seat, State, free, working, checking, storing, Holds, Fits, Below}
+use Rattle.serial.proofs.Protocol.{none-some, some-same, VersionOk, EntryOk, Covered, WorkingOk, CheckingOk, StoringOk, Inv}
+use Rattle.serial.proofs.Protocol.{upTo-closed}
 use Rattle.serial.proofs.Growth.{stays-other, entry-later, keep-holds, step-seat, grows-one, step-version, step-unheld}
 use Rattle.serial.proofs.Versions.{withHolder, extended, stored, quiet, holder-ok, holder-grows, extended-ok, extended-grows, stored-ok, stored-grows}
 
@@ -33,7 +37,8 @@ pub data Passes (x : Version) (t : Stamp) (ws : List WriteEntry) (e : ReadEntry)
 
 module _ (opening : Values) where
   -- THE CHECK'S FACT
-  pub pass-covered : (S : List Transaction) (x : Version) (t : Stamp) (ws : List WriteEntry) (e : ReadEntry) → VersionOk opening S (e .told .item) x → EntryOk opening S x e → Fits x t e →
+  pub pass-covered : (S : List Transaction) (x : Version) (t : Stamp) (ws : List WriteEntry) (e : ReadEntry) → VersionOk opening S (e .told .item) x →
+      EntryOk opening S x e → Fits x t e →
       (Named (e .told .item) ws → x .due ≡ none) → Passes x t ws e → Covered opening S x (t .key) ws e
   pass-covered S x t ws e c h f idle (spanned p) =
       let z = upTo-closed opening x c in record { seen = h .span (t .key) (f .not-early) p; safe = inl (omega (arith, h .shorter)) }
@@ -54,10 +59,12 @@ module _ (opening : Values) where
 
   module _ (σ : State) (h : Inv opening σ) (s : ℕ) where
     -- one record changes hands, and the others do not
-    others-hold : (seat : Seat) (item : ℕ) (x : Version) → ((j : ℕ) → x .holder ≡ some j → Holds (changed s seat (σ .seat) j) item) → ((q : ℕ) → q ≢ item → Holds (σ .seat s) q → Holds seat q) →
+    others-hold : (seat : Seat) (item : ℕ) (x : Version) → ((j : ℕ) → x .holder ≡ some j → Holds (changed s seat (σ .seat) j) item) →
+        ((q : ℕ) → q ≢ item → Holds (σ .seat s) q → Holds seat q) →
         (q j : ℕ) → changed item x (σ .version) q .holder ≡ some j → Holds (changed s seat (σ .seat) j) q
     others-hold seat item x e f q j =
-        changed-ind (λ n z. z .holder ≡ some j → Holds (changed s seat (σ .seat) j) n) item x (σ .version) (e j) (λ n m z. keep-holds opening σ s seat h n (f n m) j z) q
+        changed-ind (λ n z. z .holder ≡ some j → Holds (changed s seat (σ .seat) j) n) item x (σ .version) (e j)
+        (λ n m z. keep-holds opening σ s seat h n (f n m) j z) q
 
     -- an entry less
     fewer : (w : WriteEntry) (ws : List WriteEntry) (n : ℕ) → n ≢ w .item → Named n (w ∷ ws) → Named n ws
@@ -72,7 +79,8 @@ module _ (opening : Values) where
     pub opens : σ .seat s ≡ free → Inv opening (reseat σ s (working [] []))
     unfolding Distinct
     opens e =
-        step-seat opening σ s (working [] []) h (record { entries = λ z i. absurd (not-nil i); held = λ z i. absurd (not-nil i); distinct = tt }) tt (rw e (λ item z. absurd z))
+        step-seat opening σ s (working [] []) h (record { entries = λ z i. absurd (not-nil i); held = λ z i. absurd (not-nil i); distinct = tt }) tt
+        (rw e (λ item z. absurd z))
 
     -- READ
     pub reads : (rs : List ReadEntry) (ws : List WriteEntry) (item : ℕ) → σ .seat s ≡ working rs ws →
@@ -82,7 +90,8 @@ module _ (opening : Values) where
         let new = entryOf item (σ .version item) in
         step-seat opening σ s (working (rs ++ (new ∷ [])) ws) h
         (record {
-          entries = λ z i. ⊎-elim (λ (j : In z rs). w .entries z j) (λ (j : In z (new ∷ [])). rw (eq-of-singleton j) (entry-ok (σ .order) item (σ .version item) (h .versions item))) (append-cases rs i);
+          entries = λ z i. ⊎-elim (λ (j : In z rs). w .entries z j)
+              (λ (j : In z (new ∷ [])). rw (eq-of-singleton j) (entry-ok (σ .order) item (σ .version item) (h .versions item))) (append-cases rs i);
           held = w .held;
           distinct = w .distinct;
         })
@@ -104,7 +113,8 @@ module _ (opening : Values) where
         step-version opening σ s seat item y h (holder-ok opening (σ .order) item x (h .versions item) (some s) idle) grow
         (λ j n. stays-other opening j (σ .order) (σ .order) item x y (none-some (x .holder) j o))
         (record {
-          entries = λ z i. entry-later opening (σ .order) (σ .order) (σ .version) (changed item y (σ .version)) (h .versions) (grows-one opening σ item y grow) z (wo .entries z i);
+          entries = λ z i. entry-later opening (σ .order) (σ .order) (σ .version) (changed item y (σ .version)) (h .versions)
+              (grows-one opening σ item y grow) z (wo .entries z i);
           held = λ v i. ⊎-elim
               (λ (j : In v ws). rw (changed-other item y (σ .version) (v .item) (far v j)) (wo .held v j))
               (λ (j : In v (w ∷ [])). rw (eq-of-singleton j, changed-same item y (σ .version)) (record { mine = refl; idle = idle }))
@@ -128,7 +138,8 @@ module _ (opening : Values) where
         (rw e (λ q z. z))
 
     -- CHECK: a read entry that is covered passes
-    covers : (t : Stamp) (ok rs : List ReadEntry) (ws : List WriteEntry) (e : ReadEntry) → σ .seat s ≡ checking t ok (e ∷ rs) ws → Covered opening (σ .order) (σ .version (e .told .item)) (t .key) ws e →
+    covers : (t : Stamp) (ok rs : List ReadEntry) (ws : List WriteEntry) (e : ReadEntry) → σ .seat s ≡ checking t ok (e ∷ rs) ws →
+        Covered opening (σ .order) (σ .version (e .told .item)) (t .key) ws e →
         Inv opening (reseat σ s (checking t (ok ++ (e ∷ [])) rs ws))
     covers t ok rs ws e q cv =
         let w : CheckingOk opening (σ .order) (σ .version) s t ok (e ∷ rs) ws = rw q at (h .seats s) in
@@ -144,12 +155,14 @@ module _ (opening : Values) where
         (rw q at (h .by-time .seats s))
         (rw q (λ r z. z))
 
-    pub passes : (t : Stamp) (ok rs : List ReadEntry) (ws : List WriteEntry) (e : ReadEntry) → σ .seat s ≡ checking t ok (e ∷ rs) ws → Passes (σ .version (e .told .item)) t ws e →
+    pub passes : (t : Stamp) (ok rs : List ReadEntry) (ws : List WriteEntry) (e : ReadEntry) → σ .seat s ≡ checking t ok (e ∷ rs) ws →
+        Passes (σ .version (e .told .item)) t ws e →
         Inv opening (reseat σ s (checking t (ok ++ (e ∷ [])) rs ws))
     passes t ok rs ws e q p =
         let w : CheckingOk opening (σ .order) (σ .version) s t ok (e ∷ rs) ws = rw q at (h .seats s) in
         covers t ok rs ws e q
-        (pass-covered (σ .order) (σ .version (e .told .item)) t ws e (h .versions (e .told .item)) (w .entries e (here refl)) (w .fits e (here refl)) (λ i. rw (i .2) at (w .held (i .0) (i .1) .idle)) p)
+        (pass-covered (σ .order) (σ .version (e .told .item)) t ws e (h .versions (e .told .item)) (w .entries e (here refl)) (w .fits e (here refl))
+        (λ i. rw (i .2) at (w .held (i .0) (i .1) .idle)) p)
 
     -- STORE
     pub stores : (t : Stamp) (ws : List WriteEntry) (w : WriteEntry) → σ .seat s ≡ storing t (w ∷ ws) →
@@ -196,7 +209,8 @@ module _ (opening : Values) where
         step-version opening σ s (working rs ws) item y h (holder-ok opening (σ .order) item x (h .versions item) none (wo .held w (here refl) .idle)) grow
         (λ j n. stays-other opening j (σ .order) (σ .order) item x y (λ q. n (some-same (x .holder) j s q (wo .held w (here refl) .mine))))
         (record {
-          entries = λ z i. entry-later opening (σ .order) (σ .order) (σ .version) (changed item y (σ .version)) (h .versions) (grows-one opening σ item y grow) z (wo .entries z i);
+          entries = λ z i. entry-later opening (σ .order) (σ .order) (σ .version) (changed item y (σ .version)) (h .versions)
+              (grows-one opening σ item y grow) z (wo .entries z i);
           held = λ v i. rw (changed-other item y (σ .version) (v .item) (wo .distinct .0 v i)) (wo .held v (there i));
           distinct = wo .distinct .1;
         })
@@ -207,7 +221,8 @@ module _ (opening : Values) where
     leaves rs e = step-seat opening σ s free h tt tt (rw e (λ item z. absurd (not-nil (z .1))))
 
   -- CHECK that extends, one step: the version is still the one that was read and nobody holds it; `wrote` is its write time from now on
-  pub renews : (σ : State) → Inv opening σ → (s : ℕ) (t : Stamp) (ok rs : List ReadEntry) (ws : List WriteEntry) (e : ReadEntry) (wrote : ℕ) → σ .seat s ≡ checking t ok (e ∷ rs) ws →
+  pub renews : (σ : State) → Inv opening σ → (s : ℕ) (t : Stamp) (ok rs : List ReadEntry) (ws : List WriteEntry) (e : ReadEntry) (wrote : ℕ) →
+      σ .seat s ≡ checking t ok (e ∷ rs) ws →
       σ .version (e .told .item) .holder ≡ none → σ .version (e .told .item) .wrote ≡ e .wrote → e .wrote ≤ wrote → σ .version (e .told .item) .upTo ≤ t .key →
       Inv opening (reseat (reversion σ (e .told .item) (extended wrote (t .key) (σ .version (e .told .item)))) s (checking t (ok ++ (e ∷ [])) rs ws))
   renews σ h s t ok rs ws e wrote q o a b c =

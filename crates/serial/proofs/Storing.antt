@@ -28,7 +28,8 @@ use Rattle.observer.proofs.Segments.{seg, seg-next, seg-end}
 use Rattle.serial.proofs.View.{seatOf, view-storing, nudged-view}
 use Rattle.serial.proofs.Agree.{WordShows, SeenOk, Mirrored, stampAt, StaysMirrored, words-show-set, seen-nudged, agree-seeing}
 
-module _ (opening : Values) (t : Tables) (b : Observer) (now : Mirrored opening t b) (o s last : ℕ) (fi : Fine t o s 0 last) (four : phase (row (t .seats) s) ≡ 4) where
+module _ (opening : Values) (t : Tables) (b : Observer) (now : Mirrored opening t b) (o s last : ℕ) (fi : Fine t o s 0 last)
+    (four : phase (row (t .seats) s) ≡ 4) where
   abbrev g : List ℕ
   g = row (t .seats) s
 
@@ -55,7 +56,10 @@ module _ (opening : Values) (t : Tables) (b : Observer) (now : Mirrored opening 
     abbrev v : ℕ
     v = effect (writeValue g (position g)) (getD (t .values) (writeItem g (position g)) 0)
 
-    store-mirrored : Mirrored opening (tables (set (t .values) item v) (set (t .words) item (fresh (time g))) (put (t .seats) s positionAt (position g + 1))) (seeing b s (onAdvance (b .seats s) (Stored item)))
+    abbrev after : Tables
+    after = tables (set (t .values) item v) (set (t .words) item (fresh (time g))) (put (t .seats) s positionAt (position g + 1))
+
+    store-mirrored : Mirrored opening after (seeing b s (onAdvance (b .seats s) (Stored item)))
     unfolding seatOf onAdvance
     store-mirrored =
         let p = position g in
@@ -71,9 +75,11 @@ module _ (opening : Values) (t : Tables) (b : Observer) (now : Mirrored opening 
         record {
           σ = reseat (reversion (now .σ) item y) s (storing stamp rest);
           inv = stores opening (now .σ) (now .inv) s stamp rest w (is-storing ∙ rw (seg-next (writeAt g) p (writes g) l));
-          agree = agree-seeing (now .agree) (tables (set (t .values) item v) (set (t .words) item (fresh (time g))) (put (t .seats) s positionAt (p + 1))) (changed item y (now .σ .version)) s (storing stamp rest) (set g positionAt (p + 1))
+          agree =
+              agree-seeing (now .agree) after (changed item y (now .σ .version)) s (storing stamp rest) (set g positionAt (p + 1))
               (length-set (t .values) item v) (length-set (t .words) item (fresh (time g)))
-              (words-show-set (now .σ .version) (t .values) (t .words) (set (t .values) item v) item (fresh (time g)) y (now .agree .shown) (λ j d. getD-set-other (t .values) item j v 0 d) inside
+              (words-show-set (now .σ .version) (t .values) (t .words) (set (t .values) item v) item (fresh (time g)) y (now .agree .shown)
+              (λ j d. getD-set-other (t .values) item j v 0 d) inside
               (record {
                 is-value = ap (applied w) (m .is-value) ∙ sym (getD-set-same (t .values) item v 0 (omega arith));
                 is-wrote = sym (is .is-written);
@@ -91,10 +97,12 @@ module _ (opening : Values) (t : Tables) (b : Observer) (now : Mirrored opening 
       record {
         σ = reseat (now .σ) s free;
         inv = finishes opening (now .σ) (now .inv) s stamp (is-storing ∙ rw (seg-end (writeAt g) (position g) (writes g) l));
-        agree = agree-seeing (now .agree) (tables (t .values) (t .words) (freed (t .seats) s)) (now .σ .version) s free freeRow refl refl (now .agree .shown) (becomes-freed (t .seats) s (fine-row fi)) unseen refl (λ d. absurd (d refl));
+        agree = agree-seeing (now .agree) (tables (t .values) (t .words) (freed (t .seats) s)) (now .σ .version) s free freeRow refl refl
+            (now .agree .shown) (becomes-freed (t .seats) s (fine-row fi)) unseen refl (λ d. absurd (d refl));
       }
 
   pub store-phase-ok : StaysMirrored opening b (Advance o s) (storePhase t s)
   unfolding storePhase storeStep doneStep observe onAdvance
   store-phase-ok =
-      cond-ind (StaysMirrored opening b (Advance o s)) (ltb (position g) (writes g)) (λ l. store-mirrored (ltb-true _ _ l)) (λ l. done-mirrored (ltb-false _ _ l))
+      cond-ind (StaysMirrored opening b (Advance o s)) (ltb (position g) (writes g)) (λ l. store-mirrored (ltb-true _ _ l))
+      (λ l. done-mirrored (ltb-false _ _ l))

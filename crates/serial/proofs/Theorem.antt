@@ -3,7 +3,8 @@ use Prim.Native.Nat.{ℕ, zero, suc, _-_, _<_}
 use mathlib.Core.Path.{_≡_, refl, sym, ap, _∙_}
 use mathlib.Core.Logic.{⊎-elim}
 use mathlib.Core.Bool.{true, cond}
-use mathlib.Core.List.{List, [], _∷_, List·Memᴰ as In, List·Memᴰ·head as here, List·Memᴰ·tail as there, List·Memᴰ·cases-cons as uncons, List·Memᴰ·not-nil as not-nil}
+use mathlib.Core.List.{List, [], _∷_, List·Memᴰ as In, List·Memᴰ·head as here, List·Memᴰ·tail as there, List·Memᴰ·cases-cons as uncons}
+use mathlib.Core.List.{List·Memᴰ·not-nil as not-nil}
 use native.Mathlib.Omega.{arith}
 use native.Mathlib.Decide.{decLt}
 use borrow.Author.Tests.{eqb-true, eq-eqb}
@@ -38,8 +39,12 @@ use Rattle.serial.proofs.Checking.{check-phase-ok}
 use Rattle.serial.proofs.Storing.{store-phase-ok}
 
 -- SETUP that is not refused
+abbrev laidOut : Tables → ℕ → List ℕ → Tables
+laidOut t start plan =
+    tables (t .values) (replicate (length (t .words)) (fresh start)) (laid (replicate (length (t .seats)) 0) plan planWidth)
+
 setup-mirrored : (t : Tables) (start : ℕ) (plan told : List ℕ) → setupRefusal t start plan ≡ 0 →
-    Mirrored (valuesOf (t .values)) (tables (t .values) (replicate (length (t .words)) (fresh start)) (laid (replicate (length (t .seats)) 0) plan planWidth)) (begunWith told)
+    Mirrored (valuesOf (t .values)) (laidOut t start plan) (begunWith told)
 unfolding seatOf allRanked
 setup-mirrored t start plan told e =
     let h = begun t start plan e in
@@ -51,7 +56,8 @@ setup-mirrored t start plan told e =
       σ = begin start (valuesOf (t .values));
       inv = begin-inv start (valuesOf (t .values));
       agree = record {
-        sized = sized-same (tables (t .values) (replicate n (fresh start)) (laid (replicate m 0) plan planWidth)) (h .sized) refl (length-replicate n (fresh start)) (length-laid (replicate m 0) plan planWidth ∙ length-replicate {A = ℕ} m 0);
+        sized = sized-same (laidOut t start plan) (h .sized) refl (length-replicate n (fresh start))
+            (length-laid (replicate m 0) plan planWidth ∙ length-replicate {A = ℕ} m 0);
         shown = λ item l. rw (getD-replicate n item (fresh start) 0 (rw (length-replicate n (fresh start)) at l))
             (record { is-value = refl; is-wrote = sym (is .is-written); is-upTo = sym (is .is-read); idle = λ _. refl });
         rows = λ s. rw (idle s);
@@ -60,7 +66,8 @@ setup-mirrored t start plan told e =
       };
     }
 
-setup-began : (t : Tables) (start : ℕ) (plan told : List ℕ) → kind (setup t start plan .answer) ≡ ready → Mirrored (valuesOf (t .values)) (setup t start plan .tables) (begunWith told)
+setup-began : (t : Tables) (start : ℕ) (plan told : List ℕ) → kind (setup t start plan .answer) ≡ ready →
+    Mirrored (valuesOf (t .values)) (setup t start plan .tables) (begunWith told)
 unfolding setup
 setup-began t start plan told r = let e = setup-ready t start plan r in rw (eq-eqb (setupRefusal t start plan) 0 e) (setup-mirrored t start plan told e)
 
@@ -105,7 +112,8 @@ call-mirrored values t b now (Advance o s) = advance-ok (valuesOf values) t b no
 call-mirrored values t b now (Abandon o s) = abandon-ok (valuesOf values) t b now o s
 
 -- the first Setup may find tables of any contents
-first-mirrored : (t : Tables) (b : Observer) (c : Call) → begins c (step t c .answer) ≡ true → Mirrored (valuesOf (t .values)) (step t c .tables) (observe b c (step t c .answer))
+first-mirrored : (t : Tables) (b : Observer) (c : Call) → begins c (step t c .answer) ≡ true →
+    Mirrored (valuesOf (t .values)) (step t c .tables) (observe b c (step t c .answer))
 unfolding step isSetup
 first-mirrored t b c q =
     let z = begins-is c (step t c .answer) q in
@@ -116,13 +124,16 @@ first-mirrored t b c q =
     first start plan r = rw (begins-anew b start plan _ r) (setup-began t start plan plan r)
 
 -- ANY CALLS
-calls-mirrored : (cs : List Call) (values : List ℕ) (t : Tables) (b : Observer) → Mirrored (valuesOf values) t b → Mirrored (valuesOf (openingFrom values t cs)) (run t cs) (observed b (history t cs))
+calls-mirrored : (cs : List Call) (values : List ℕ) (t : Tables) (b : Observer) → Mirrored (valuesOf values) t b →
+    Mirrored (valuesOf (openingFrom values t cs)) (run t cs) (observed b (history t cs))
 unfolding openingFrom run history observed
 calls-mirrored [] values t b now = now
 calls-mirrored (c ∷ cs) values t b now =
-    calls-mirrored cs (cond (begins c (step t c .answer)) (t .values) values) (step t c .tables) (observe b c (step t c .answer)) (call-mirrored values t b now c)
+    calls-mirrored cs (cond (begins c (step t c .answer)) (t .values) values) (step t c .tables) (observe b c (step t c .answer))
+    (call-mirrored values t b now c)
 
-since-mirrored : (cs : List Call) (values : List ℕ) (t : Tables) (b : Observer) → SomeSetup (history t cs) → Mirrored (valuesOf (openingFrom values t cs)) (run t cs) (observed b (history t cs))
+since-mirrored : (cs : List Call) (values : List ℕ) (t : Tables) (b : Observer) → SomeSetup (history t cs) →
+    Mirrored (valuesOf (openingFrom values t cs)) (run t cs) (observed b (history t cs))
 unfolding openingFrom run history observed
 since-mirrored [] values t b some = absurd (not-nil (some .1))
 since-mirrored (c ∷ cs) values t b some =
@@ -160,7 +171,8 @@ promised opening t b now =
     record {
       right = rw (← now .agree .order) (now .inv .right);
       final = λ all item l.
-          rw (← now .agree .order) (inv-final opening (now .σ) (now .inv) (λ s q z. none all s (store-left-row (b .seats s .key) (row (t .seats) s) q (rw (now .agree .rows s) at z)) (decLt s seatCount)) item)
+          rw (← now .agree .order) (inv-final opening (now .σ) (now .inv)
+          (λ s q z. none all s (store-left-row (b .seats s .key) (row (t .seats) s) q (rw (now .agree .rows s) at z)) (decLt s seatCount)) item)
           ∙ now .agree .shown item (omega (arith, now .agree .sized .same)) .is-value;
       by-time = λ T i. now .inv .by-time .sealed T (rw (now .agree .order) (in-serial T (b .sealed) i));
     }

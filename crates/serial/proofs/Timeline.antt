@@ -5,7 +5,9 @@ use Prim.Native.Nat.{ℕ, _≤_, _<_}
 use mathlib.Core.Path.{_≡_, refl, sym, ap, _∙_}
 use mathlib.Core.Logic.{_⊎_, inl, inr, ⊎-elim, _≢_}
 use mathlib.Core.Bool.{cond}
-use mathlib.Core.List.{List, [], _∷_, _++_, List·Memᴰ as In, List·Memᴰ·head as here, List·Memᴰ·tail as there, List·Memᴰ·cases-cons as uncons, List·Memᴰ·append-cases as append-cases, List·Memᴰ·not-nil as not-nil, List·Memᴰ·eq-of-singleton as eq-of-singleton}
+use mathlib.Core.List.{List, [], _∷_, _++_, List·Memᴰ as In, List·Memᴰ·head as here, List·Memᴰ·tail as there}
+use mathlib.Core.List.{List·Memᴰ·cases-cons as uncons, List·Memᴰ·append-cases as append-cases, List·Memᴰ·not-nil as not-nil}
+use mathlib.Core.List.{List·Memᴰ·eq-of-singleton as eq-of-singleton}
 use native.Mathlib.Decide.{ℕ-discrete}
 use borrow.Author.Tests.{eq-eqb, ne-eqb, le-leb, lt-leb}
 use lib.Dec.{leb}
@@ -46,7 +48,8 @@ pub distinct-more : (ws : List WriteEntry) (w : WriteEntry) → Distinct ws → 
 unfolding Distinct
 distinct-more [] w d n = (λ v i. absurd (not-nil i), tt)
 distinct-more (z ∷ ws) w d n = (
-  λ v i e. ⊎-elim (λ (j : In v ws). d .0 v j e) (λ (j : In v (w ∷ [])). n z (here refl) (sym e ∙ ap (λ (y : WriteEntry). y .item) (eq-of-singleton j))) (append-cases ws i),
+  λ v i e. ⊎-elim (λ (j : In v ws). d .0 v j e) (λ (j : In v (w ∷ [])). n z (here refl) (sym e ∙ ap (λ (y : WriteEntry). y .item) (eq-of-singleton j)))
+      (append-cases ws i),
   distinct-more ws w (d .1) (λ v i. n v (there i)),
 )
 
@@ -135,7 +138,8 @@ module _ (T : Transaction) where
       quiet l U i = q U i (all-later (T .key) Z S s l U i)
 
 -- reads stay right over values that agree on what is read
-right-same : (S : List Transaction) (f g : Values) → ((U : Transaction) → In U S → (e : FirstRead) → In e (U .reads) → g (e .item) ≡ f (e .item)) → Right S f → Right S g
+right-same : (S : List Transaction) (f g : Values) → ((U : Transaction) → In U S → (e : FirstRead) → In e (U .reads) → g (e .item) ≡ f (e .item)) →
+    Right S f → Right S g
 unfolding Right
 right-same [] f g h t = tt
 right-same (U ∷ S) f g h t = (
@@ -152,7 +156,11 @@ unfolding Right ranked upto Sorted
 right-ranked T [] f s h q t = (h, tt)
 right-ranked T (Z ∷ S) f s h q t =
     cond-ind (λ (l : List Transaction). Right l f) (precedes Z T)
-    (λ a. (t .0, right-ranked T S (valuesAfter Z f) (s .1) (λ e i. ap (upto (T .key) S (e .item)) (sym (step-up (T .key) Z (e .item) (f (e .item)) (precedes-yes Z T a))) ∙ h e i) (λ U i. q U (there i)) (t .1)))
+    (λ a. (
+      t .0,
+      right-ranked T S (valuesAfter Z f) (s .1)
+          (λ e i. ap (upto (T .key) S (e .item)) (sym (step-up (T .key) Z (e .item) (f (e .item)) (precedes-yes Z T a))) ∙ h e i) (λ U i. q U (there i)) (t .1),
+    ))
     (λ a. (
       λ e i. sym (upto-late (T .key) (Z ∷ S) (e .item) (f (e .item)) (late (precedes-no Z T a))) ∙ h e i,
       right-same (Z ∷ S) f (valuesAfter T f) (λ U i e j. written-absent (T .writes) (e .item) (f (e .item)) (q U i (late (precedes-no Z T a) U i) e j)) t,

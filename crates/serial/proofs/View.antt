@@ -45,17 +45,21 @@ pub view-early : (n : ℕ) (g : List ℕ) → phase g ≢ 0 → phase g ≤ 2 �
 unfolding seatOf
 view-early n g = go (phase g)
   where
-    go : (ph : ℕ) → ph ≢ 0 → ph ≤ 2 → seatOf n ph (position g) (reads g) (writes g) (time g) (entryAt g) (writeAt g) ≡ working (readEntries g) (seg (writeAt g) 0 (position g))
+    go : (ph : ℕ) → ph ≢ 0 → ph ≤ 2 →
+        seatOf n ph (position g) (reads g) (writes g) (time g) (entryAt g) (writeAt g) ≡ working (readEntries g) (seg (writeAt g) 0 (position g))
     go zero d l = absurd (d refl)
     go (suc zero) d l = refl
     go (suc (suc zero)) d l = refl
     go (suc (suc (suc m))) d l = absurd (omega arith)
 
-pub view-checking : (n : ℕ) (g : List ℕ) → phase g ≡ 3 → view n g ≡ checking (record { key = n; time = time g }) (seg (entryAt g) 0 (position g)) (seg (entryAt g) (position g) (reads g - position g)) (writeEntries g)
+pub view-checking : (n : ℕ) (g : List ℕ) → phase g ≡ 3 →
+    view n g ≡ checking (record { key = n; time = time g })
+    (seg (entryAt g) 0 (position g)) (seg (entryAt g) (position g) (reads g - position g)) (writeEntries g)
 unfolding seatOf
 view-checking n g e = rw e
 
-pub view-storing : (n : ℕ) (g : List ℕ) → phase g ≡ 4 → view n g ≡ storing (record { key = n; time = time g }) (seg (writeAt g) (position g) (writes g - position g))
+pub view-storing : (n : ℕ) (g : List ℕ) → phase g ≡ 4 →
+    view n g ≡ storing (record { key = n; time = time g }) (seg (writeAt g) (position g) (writes g - position g))
 unfolding seatOf
 view-storing n g e = rw e
 
@@ -71,7 +75,9 @@ entry-same g h i a b c d = λ z. record { told = record { item = a z; value = b 
 -- A NUDGED ROW has its entries
 module _ {g h : List ℕ} {ph p t : ℕ} (n : Nudged g h ph p t) where
   nudged-read : entryAt h ≡ entryAt g
-  nudged-read = fun-ext (λ i. entry-same g h i (at (readItemAt i) (omega arith)) (at (readValueAt i) (omega arith)) (at (keptWriteAt i) (omega arith)) (at (keptReadAt i) (omega arith)))
+  nudged-read =
+      fun-ext (λ i. entry-same g h i
+      (at (readItemAt i) (omega arith)) (at (readValueAt i) (omega arith)) (at (keptWriteAt i) (omega arith)) (at (keptReadAt i) (omega arith)))
     where
       at : (f : ℕ) → timeAt < f → getD h f 0 ≡ getD g f 0
       at f l = n .rest f (omega arith) (omega arith) (omega arith)
@@ -82,7 +88,9 @@ module _ {g h : List ℕ} {ph p t : ℕ} (n : Nudged g h ph p t) where
 -- A ROW WITH A NEW READ ENTRY has that after the others
 module _ {g h : List ℕ} {item value wrote upTo : ℕ} (n : WithRead g h item value wrote upTo) (few : reads g < mostReads) where
   noted-read : (i : ℕ) → i < reads g → entryAt h i ≡ entryAt g i
-  noted-read i l = entry-same g h i (n .before (readItemAt i) (omega arith) (omega arith)) (n .before (readValueAt i) (omega arith) (omega arith)) (n .before (keptWriteAt i) (omega arith) (omega arith)) (n .before (keptReadAt i) (omega arith) (omega arith))
+  noted-read i l =
+      entry-same g h i (n .before (readItemAt i) (omega arith) (omega arith)) (n .before (readValueAt i) (omega arith) (omega arith))
+      (n .before (keptWriteAt i) (omega arith) (omega arith)) (n .before (keptReadAt i) (omega arith) (omega arith))
 
   pub noted-readEntries : readEntries h ≡ readEntries g ++ (record { told = record { item = item; value = value }; wrote = wrote; upTo = upTo } ∷ [])
   noted-readEntries =

@@ -38,13 +38,16 @@ seen-working g x one z = record { shows = z; is-left = λ e. absurd (omega arith
 
 module _ (opening : Values) (t : Tables) (b : Observer) (now : Mirrored opening t b) where
   -- OPEN: the lowest free seat is free
-  opened-mirrored : (s o : ℕ) → Sized t → s < seatCount → phase (row (t .seats) s) ≡ 0 → Mirrored opening (tables (t .values) (t .words) (opened (t .seats) s o)) (seeing b s (givenTo o))
+  opened-mirrored : (s o : ℕ) → Sized t → s < seatCount → phase (row (t .seats) s) ≡ 0 →
+      Mirrored opening (tables (t .values) (t .words) (opened (t .seats) s o)) (seeing b s (givenTo o))
   unfolding seatOf seg
   opened-mirrored s o z l e =
       record {
         σ = reseat (now .σ) s (working [] []);
         inv = opens opening (now .σ) (now .inv) s (now .agree .rows s ∙ rw e);
-        agree = agree-seeing (now .agree) (tables (t .values) (t .words) (opened (t .seats) s o)) (now .σ .version) s (working [] []) (openedRow o) refl refl (now .agree .shown)
+        agree =
+            agree-seeing (now .agree) (tables (t .values) (t .words) (opened (t .seats) s o)) (now .σ .version) s (working [] [])
+            (openedRow o) refl refl (now .agree .shown)
             (becomes-opened (t .seats) s o (length-row (t .seats) s (z .rows) l)) (givenTo o) refl
             (λ _. seen-working (openedRow o) (givenTo o) refl (record { is-reads = refl; is-writes = refl }));
       }
@@ -53,7 +56,8 @@ module _ (opening : Values) (t : Tables) (b : Observer) (now : Mirrored opening 
   unfolding openSeat openRefusal freeSeat isFree observe
   open-ok o =
       unless-ok opening t b now (Open o) (openRefusal t o) _
-      (λ e. let l = seat-found t o e in opened-mirrored (freeSeat (t .seats)) o (sized-of t (first-none 0 _ e .0)) l (eqb-true _ _ (first-hit (isFree (t .seats)) seatCount l)))
+      (λ e. let l = seat-found t o e in opened-mirrored (freeSeat (t .seats)) o (sized-of t (first-none 0 _ e .0)) l
+      (eqb-true _ _ (first-hit (isFree (t .seats)) seatCount l)))
 
 -- READ AND WRITE, not refused before 6
 module _ (opening : Values) (t : Tables) (b : Observer) (now : Mirrored opening t b) (o s item : ℕ) (fi : Fine t o s item 1) where
@@ -86,7 +90,8 @@ module _ (opening : Values) (t : Tables) (b : Observer) (now : Mirrored opening 
   -- READ of another, with room for an entry
   noted-mirrored : isKnown (b .seats s) item ≡ false → reads g < mostReads →
       let v = getD (t .values) item 0 in
-      Mirrored opening (tables (t .values) (t .words) (readNoted (t .seats) s item v (getD (t .words) item 0))) (seeing b s (onRead (b .seats s) item (Value v)))
+      Mirrored opening (tables (t .values) (t .words) (readNoted (t .seats) s item v (getD (t .words) item 0)))
+      (seeing b s (onRead (b .seats s) item (Value v)))
   noted-mirrored unknown few =
       let v = getD (t .values) item 0 in
       let word = getD (t .words) item 0 in
@@ -99,9 +104,11 @@ module _ (opening : Values) (t : Tables) (b : Observer) (now : Mirrored opening 
       record {
         σ = reseat (now .σ) s (working (readEntries g ++ (entryOf item (now .σ .version item) ∷ [])) []);
         inv = step-reads opening (now .σ) (now .inv) s (readEntries g) [] item is-working;
-        agree = agree-seeing (now .agree) (tables (t .values) (t .words) (readNoted (t .seats) s item v word)) (now .σ .version) s _ h refl refl (now .agree .shown)
+        agree =
+            agree-seeing (now .agree) (tables (t .values) (t .words) (readNoted (t .seats) s item v word)) (now .σ .version) s _ h refl refl (now .agree .shown)
             (becomes-noted (t .seats) s item v word (omega arith)) x
-            ((λ i. working (readEntries g ++ (record { told = record { item = item; value = m .is-value i }; wrote = m .is-wrote i; upTo = m .is-upTo i } ∷ [])) [])
+            ((λ i. working (readEntries g
+            ++ (record { told = record { item = item; value = m .is-value i }; wrote = m .is-wrote i; upTo = m .is-upTo i } ∷ [])) [])
             ∙ (λ i. working (sym (noted-readEntries n few) i) [])
             ∙ sym (view-working (x .key) h ph po))
             (λ _. seen-working h x ph (read-shows g (b .seats s) (seen .shows) item h v (writeTime word) (readTime word) n few unknown));
@@ -119,7 +126,8 @@ module _ (opening : Values) (t : Tables) (b : Observer) (now : Mirrored opening 
   read-in-ok =
       cond-ind (StaysMirrored opening b (Read o s item)) (ltb (writeOf g item) (writes g))
       (λ a. seen-before _ (known ∙ rw a))
-      (λ a. cond-ind (StaysMirrored opening b (Read o s item)) (ltb (readOf g item) (reads g)) (λ c. seen-before _ (known ∙ rw (a, c))) (λ c. first-ok (known ∙ rw (a, c))))
+      (λ a. cond-ind (StaysMirrored opening b (Read o s item)) (ltb (readOf g item) (reads g)) (λ c. seen-before _ (known ∙ rw (a, c)))
+      (λ c. first-ok (known ∙ rw (a, c))))
 
   -- WRITE: the row's write entries change, and its reads do not
   written-mirrored : (v : ℕ) (l h : List ℕ) → Becomes (t .seats) l s h → SameFront g h → Shows h (onWrite (b .seats s) item v (Noted item)) →
@@ -162,7 +170,8 @@ module _ (opening : Values) (t : Tables) (b : Observer) (now : Mirrored opening 
     unfolding writeIn observe
     write-in-ok =
         cond-ind (StaysMirrored opening b (Write o s item v)) (ltb (writeOf g item) (writes g)) (λ a. renewed-mirrored a)
-        (λ a. cond-ind (StaysMirrored opening b (Write o s item v)) (leb mostWrites (writes g)) (λ _. refused opening t b now (Write o s item v) 9) (λ c. inserted-mirrored a (leb-false mostWrites (writes g) c)))
+        (λ a. cond-ind (StaysMirrored opening b (Write o s item v)) (leb mostWrites (writes g)) (λ _. refused opening t b now (Write o s item v) 9)
+        (λ c. inserted-mirrored a (leb-false mostWrites (writes g) c)))
 
 module _ (opening : Values) (t : Tables) (b : Observer) (now : Mirrored opening t b) where
   pub read-ok : (o s item : ℕ) → StaysMirrored opening b (Read o s item) (read t o s item)
@@ -171,4 +180,5 @@ module _ (opening : Values) (t : Tables) (b : Observer) (now : Mirrored opening 
 
   pub write-ok : (o s item v : ℕ) → StaysMirrored opening b (Write o s item v) (write t o s item v)
   unfolding write
-  write-ok o s item v = unless-ok opening t b now (Write o s item v) (refusal t o s item 1) _ (λ e. write-in-ok opening t b now o s item (fine t o s item 1 e) v)
+  write-ok o s item v =
+      unless-ok opening t b now (Write o s item v) (refusal t o s item 1) _ (λ e. write-in-ok opening t b now o s item (fine t o s item 1 e) v)
