@@ -13,10 +13,10 @@ use Rattle.rules.specs.Tables.{Tables, tables}
 use Rattle.rules.specs.Plan.{badPlan, holds, held, claim, claims, laid}
 use Rattle.rows.specs.Begin.{Begun, length-laid, laid-at, laid-row}
 use Rattle.reach.proofs.Count.{one, sum-same, count-none}
-use Rattle.reach.proofs.Order.{Zero, locks, InOrder}
+use Rattle.reach.proofs.InOrder.{Zero, locks, InOrder}
 use Rattle.reach.proofs.Rows.{row-zero}
 use Rattle.reach.proofs.Freed.{locks-free}
-use Rattle.reach.proofs.Books.{planned, plan-same, heldBy, held-free}
+use Rattle.reach.proofs.WithinPlan.{planned, plan-same, heldBy, held-free}
 
 module _ (t : Tables) (start : ℕ) (plan : List ℕ) (b : Begun t start plan) where
   abbrev seats : List ℕ
@@ -47,9 +47,9 @@ module _ (t : Tables) (start : ℕ) (plan : List ℕ) (b : Begun t start plan) w
   good-plan : badPlan (laid (replicate (length (t .seats)) 0) plan planWidth) ≡ false
   good-plan = plan-same plan seats plan-laid (b .plan-good)
 
-  pub begins : InOrder (tables (t .values) (replicate (length (t .words)) (fresh start)) (laid (replicate (length (t .seats)) 0) plan planWidth))
+  pub laid-in-order : InOrder (tables (t .values) (replicate (length (t .words)) (fresh start)) (laid (replicate (length (t .seats)) 0) plan planWidth))
   unfolding claims claim
-  begins =
+  laid-in-order =
       let z = b .sized in
       let lw : length words ≡ length (t .words) = length-replicate (length (t .words)) (fresh start) in
       let lz = as-long in
@@ -62,12 +62,13 @@ module _ (t : Tables) (start : ℕ) (plan : List ℕ) (b : Begun t start plan) w
           rows = length-laid (replicate (length (t .seats)) 0) plan planWidth ∙ lz ∙ z .rows;
         };
         rows = λ s l. row-zero (length words) (zeros s);
-        books = record {
+        within = record {
           plan = good-plan;
           limits = λ o l. let q = none-held o in omega arith;
-          room =
+          claims-fit =
               let q = planned seats good-plan .total in
-              let r : sumTo (claim seats) owners ≡ sumTo (share seats) owners = sum-same (share seats) (claim seats) owners (λ o l. let y = none-held o in omega arith) in
+              let r : sumTo (claim seats) owners ≡ sumTo (share seats) owners =
+              sum-same (share seats) (claim seats) owners (λ o l. let y = none-held o in omega arith) in
               omega arith;
         };
         held-once = λ x l.

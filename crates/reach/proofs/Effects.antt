@@ -17,27 +17,33 @@ use Rattle.rules.specs.Plan.{badPlan, setupRefusal, setup, openRefusal, freeSea
 use Rattle.rules.specs.Work.{readIn, read, writeIn, write}
 use Rattle.rules.specs.Advance.{letGo, advanceIn, advance, abandon}
 use Rattle.rules.specs.Calls.{Call, Setup, Open, Read, Write, Advance, Abandon, step, run}
+use Rattle.rules.specs.declared.Answer.{Answer}
 use Rattle.rules.specs.declared.Answer.the-variants.{Ready, Refused, Dropped}
 use Rattle.rows.specs.Fine.{cond-ind, none-of, Fine, fine}
 use Rattle.rows.specs.Begin.{begun}
-use Rattle.reach.specs.Tally.{about, names}
+use Rattle.observer.specs.Observer.{Seen, Observer, givenTo, onAdvance, onAbandon, changed, observe}
 use Rattle.reach.proofs.Tests.{by, not-third}
-use Rattle.reach.proofs.Order.{Zero, Used, Books, InOrder}
+use Rattle.reach.proofs.InOrder.{Zero, Used, WithinPlan, InOrder}
 use Rattle.reach.proofs.Rows.{undamaged}
-use Rattle.reach.proofs.Books.{books-less}
-use Rattle.reach.proofs.Steps.{Change, Told, Step, state-after}
+use Rattle.reach.proofs.WithinPlan.{within-less}
+use Rattle.reach.proofs.Steps.{Change, Tells, Step, state-after}
 use Rattle.reach.proofs.Freed.{lets-go}
 use Rattle.reach.proofs.Moves.{drops, advance-ok}
 use Rattle.reach.proofs.Edits.{read-ok, write-ok}
-use Rattle.reach.proofs.Opens.{not-unsized, open-fair, room, free-seat, open-change, open-told, open-books}
+use Rattle.reach.proofs.Opens.{not-unsized, open-fair, may-open, free-seat, open-change, open-tells, open-within}
 use Rattle.reach.proofs.Begin as B
+
+-- a call with its answer shows f of seat s, and nothing else
+pub record ShowsAt (c : Call) (a : Answer) (s : ℕ) (f : Seen → Answer → Seen) : Type 0 where
+  pub seats : (b : Observer) → observe b c a .seats ≡ changed s (f (b .seats s) a) (b .seats)
+  pub plan : (b : Observer) → observe b c a .plan ≡ b .plan
 
 pub data Effect (t : Tables) (c : Call) (o : Outcome) : Type 0 where
   refuses : (n : ℕ) → n ≢ 3 → o ≡ keep t (Refused n) → Effect t c o
-  changes : (s : ℕ) → s < seatCount → ((j : ℕ) → about j c (o .answer) ≡ eqb s j) → (h : List ℕ) → Change t (o .tables) s h →
-      Books (o .tables .seats) → Told (names c) (row (t .seats) s) h (o .answer) → Effect t c o
-  begins : (start : ℕ) (plan : List ℕ) → c ≡ Setup start plan → o .answer ≡ Ready (length (t .words)) →
-      length (o .tables .words) ≡ length (t .words) → ((j : ℕ) → about j c (o .answer) ≡ true) → InOrder (o .tables) →
+  changes : (s : ℕ) → s < seatCount → (f : Seen → Answer → Seen) → ShowsAt c (o .answer) s f → (h : List ℕ) → Change t (o .tables) s h →
+      WithinPlan (o .tables .seats) → Tells f (row (t .seats) s) h (o .answer) → Effect t c o
+  starts : (start : ℕ) (plan : List ℕ) → c ≡ Setup start plan → o .answer ≡ Ready (length (t .words)) →
+      length (o .tables .words) ≡ length (t .words) → InOrder (o .tables) →
       ((s : ℕ) → Zero (row (o .tables .seats) s)) → ((i : ℕ) → i < planWidth → getD (o .tables .seats) i 0 ≡ getD plan i 0) →
       Effect t c o
 
@@ -60,9 +66,9 @@ module _ (t : Tables) (k : InOrder t) (o s x last : ℕ) where
   pub used-of : Fine t o s x last → Used (length (t .words)) (row (t .seats) s)
   used-of f = k .rows s (f .seat-in) .in-use (f .used)
 
-seat-effect : (t : Tables) (c : Call) (s : ℕ) (o : Outcome) → InOrder t → s < seatCount → ((j : ℕ) → about j c (o .answer) ≡ eqb s j) →
-    Step t s (names c) o → Effect t c o
-seat-effect t c s o k low e p = changes s low e (p .next) (p .change) (books-less (p .change .becomes) low (p .mine) (k .books)) (p .told)
+seat-effect : (t : Tables) (c : Call) (s : ℕ) (f : Seen → Answer → Seen) (o : Outcome) → InOrder t → s < seatCount → ShowsAt c (o .answer) s f →
+    Step t s f o → Effect t c o
+seat-effect t c s f o k low e p = changes s low f e (p .next) (p .change) (within-less (p .change .becomes) low (p .mine) (k .within)) (p .told)
 
 -- SETUP, over any tables
 never-three : (a b d : Bool) → _≢_ {A = ℕ} (cond a 1 (cond b 2 (cond d 11 0))) 3
@@ -72,59 +78,63 @@ never-three false false true = omega arith
 never-three false false false = omega arith
 
 pub setup-effect : (t : Tables) (start : ℕ) (plan : List ℕ) → Effect t (Setup start plan) (setup t start plan)
-unfolding setup about
+unfolding setup
 setup-effect t start plan =
     either t (Setup start plan) (setupRefusal t start plan) _
     (unfold setupRefusal in never-three (unsized (length (t .values)) (length (t .words)) (length (t .seats))) (ltb top start) (badPlan plan))
     (λ e. let b = begun t start plan e in
-    begins start plan refl refl (length-replicate (length (t .words)) (fresh start)) (λ j. refl)
-    (B.begins t start plan b) (B.zeros t start plan b) (B.plan-laid t start plan b))
+    starts start plan refl refl (length-replicate (length (t .words)) (fresh start))
+    (B.laid-in-order t start plan b) (B.zeros t start plan b) (B.plan-laid t start plan b))
 
 -- ANY CALL
-pub effect : (t : Tables) → InOrder t → (c : Call) → Effect t c (step t c)
-unfolding step read write advance abandon openSeat about names
-effect t k (Setup start plan) = setup-effect t start plan
-effect t k (Open o) =
+pub effect-of : (t : Tables) → InOrder t → (c : Call) → Effect t c (step t c)
+unfolding step read write advance abandon openSeat observe
+effect-of t k (Setup start plan) = setup-effect t start plan
+effect-of t k (Open o) =
     either t (Open o) (openRefusal t o) _ (open-fair t k o)
     (λ e. let s : ℕ = freeSeat (t .seats) in
     let f = free-seat t k o e in
-    let r = room t k o e in
-    changes s (f .0) (λ j. refl) _ (open-change t k o s (f .0) (f .1) (r .owner-in)) (open-books t k o s (f .0) (f .1) r) (open-told t k o s (f .0) (f .1)))
-effect t k (Read o s x) =
+    let r = may-open t k o e in
+    changes s (f .0) (λ x a. givenTo o) (record { seats = λ b. refl; plan = λ b. refl }) _
+    (open-change t k o s (f .0) (f .1) (r .owner-in)) (open-within t k o s (f .0) (f .1) r) (open-tells t k o s (f .0) (f .1)))
+effect-of t k (Read o s x) =
     either t (Read o s x) (refusal t o s x 1) (readIn t s x) (refusal-fair t k o s x 1)
     (λ e. let f = fine t o s x 1 e in
     let d : phase (row (t .seats) s) ≢ 0 = f .used in
     let p = f .phase-in in
-    seat-effect t (Read o s x) s (readIn t s x) k (f .seat-in) (λ j. refl) (read-ok t s x k (used-of t k o s x 1 f) (f .seat-in) (omega arith) (f .item-in)))
-effect t k (Write o s x v) =
+    seat-effect t (Read o s x) s _ (readIn t s x) k (f .seat-in) (record { seats = λ b. refl; plan = λ b. refl })
+    (read-ok t s k (used-of t k o s x 1 f) (f .seat-in) (omega arith) x (f .item-in)))
+effect-of t k (Write o s x v) =
     either t (Write o s x v) (refusal t o s x 1) (writeIn t s x v) (refusal-fair t k o s x 1)
     (λ e. let f = fine t o s x 1 e in
     let d : phase (row (t .seats) s) ≢ 0 = f .used in
     let p = f .phase-in in
-    seat-effect t (Write o s x v) s (writeIn t s x v) k (f .seat-in) (λ j. refl) (write-ok t s x k (used-of t k o s x 1 f) (f .seat-in) (omega arith) x v (f .item-in)))
-effect t k (Advance o s) =
+    seat-effect t (Write o s x v) s _ (writeIn t s x v) k (f .seat-in) (record { seats = λ b. refl; plan = λ b. refl })
+    (write-ok t s k (used-of t k o s x 1 f) (f .seat-in) (omega arith) x v (f .item-in)))
+effect-of t k (Advance o s) =
     either t (Advance o s) (refusal t o s 0 4) (advanceIn t s) (refusal-fair t k o s 0 4)
     (λ e. let f = fine t o s 0 4 e in
-    seat-effect t (Advance o s) s (advanceIn t s) k (f .seat-in) (λ j. refl) (advance-ok t s 0 (k .sized .rows) (f .seat-in) (used-of t k o s 0 4 f)))
-effect t k (Abandon o s) =
+    seat-effect t (Advance o s) s onAdvance (advanceIn t s) k (f .seat-in) (record { seats = λ b. refl; plan = λ b. refl })
+    (advance-ok t s (k .sized .rows) (f .seat-in) (used-of t k o s 0 4 f)))
+effect-of t k (Abandon o s) =
     either t (Abandon o s) (refusal t o s 0 3) (letGo t s (Dropped s)) (refusal-fair t k o s 0 3)
     (λ e. let f = fine t o s 0 3 e in
-    seat-effect t (Abandon o s) s (letGo t s (Dropped s)) k (f .seat-in) (λ j. refl)
-    (lets-go t s 0 (k .sized .rows) (f .seat-in) (used-of t k o s 0 3 f) (Dropped s) (drops s) (f .phase-in)))
+    seat-effect t (Abandon o s) s onAbandon (letGo t s (Dropped s)) k (f .seat-in) (record { seats = λ b. refl; plan = λ b. refl })
+    (lets-go t s onAbandon (k .sized .rows) (f .seat-in) (used-of t k o s 0 3 f) (Dropped s) (drops s) (f .phase-in)))
 
 -- and the tables are in order after it
 pub after-effect : (t : Tables) (c : Call) (o : Outcome) → InOrder t → Effect t c o → InOrder (o .tables)
 after-effect t c o k (refuses n d e) = subst (λ (q : Outcome). InOrder (q .tables)) (sym e) k
-after-effect t c o k (changes s low a h ch b told) = state-after t (o .tables) s h low ch b k
-after-effect t c o k (begins start plan q e m a b z p) = b
+after-effect t c o k (changes s low f a h ch b told) = state-after t (o .tables) s h low ch b k
+after-effect t c o k (starts start plan q e m b z p) = b
 
 -- and there are as many records as before
 pub as-many : (t : Tables) (c : Call) (o : Outcome) → Effect t c o → length (o .tables .words) ≡ length (t .words)
 as-many t c o (refuses n d e) = ap (λ (z : Outcome). length (z .tables .words)) e
-as-many t c o (changes s low a h ch b told) = ch .words
-as-many t c o (begins start plan q e m a b z p) = m
+as-many t c o (changes s low f a h ch b told) = ch .words
+as-many t c o (starts start plan q e m b z p) = m
 
 pub in-order-run : (t : Tables) → InOrder t → (cs : List Call) → InOrder (run t cs)
 unfolding run
 in-order-run t k [] = k
-in-order-run t k (c ∷ cs) = in-order-run (step t c .tables) (after-effect t c (step t c) k (effect t k c)) cs
+in-order-run t k (c ∷ cs) = in-order-run (step t c .tables) (after-effect t c (step t c) k (effect-of t k c)) cs

@@ -2,45 +2,32 @@
 use Prim.Native.Nat.{ℕ, zero, suc, _<_, _≤_}
 use mathlib.Core.Path.{_≡_, refl, sym, ap, _∙_}
 use mathlib.Core.Logic.{_≢_, _⊎_, inl, inr, ⊎-elim}
-use mathlib.Core.Bool.{Bool, not, _&&_}
-use mathlib.Core.List.{List, [], _∷_}
+use mathlib.Core.Bool.{Bool, not}
+use mathlib.Core.List.{List}
 use native.Mathlib.Omega.{arith}
 use borrow.Author.Tests.{eqb-true, eqb-false, ne-eqb, leb-true, leb-false}
 use lib.Dec.{eqb, leb}
-use lib.ListN.{getD}
 use Rattle.rules.specs.Tests.{count, sumTo}
-use Rattle.rules.specs.Layout.{owners, seatCount, planWidth, shareAt, limitAt, row, phase, owner}
+use Rattle.rules.specs.Layout.{owners, seatCount, shareAt, limitAt, row, phase, owner}
 use Rattle.rules.specs.Places.{length-row}
 use Rattle.rules.specs.Tables.{Tables, Outcome, after, keep}
-use Rattle.rules.specs.Answers.{ready, seat, refused, kind, number}
+use Rattle.rules.specs.Answers.{seat, refused, kind, number}
 use Rattle.rules.specs.Plan.{holds, held, claims, crowded, openRefusal, isFree, freeSeat, opened, openSeat}
-use Rattle.rules.specs.Calls.{Call, Setup, Open, Read, Write, Advance, Abandon, step, run, history}
-use Rattle.rules.specs.declared.Answer.{Answer}
+use Rattle.rules.specs.Calls.{Open, step}
 use Rattle.rules.specs.declared.Answer.the-variants.{Seat, Refused}
 use Rattle.rows.specs.Sums.{sum-add}
 use Rattle.rows.specs.Changed.{opened-row}
 use Rattle.rows.specs.Becomes.{becomes-opened}
-use Rattle.reach.specs.Reached.{Reached, seen, takes, planAfter, planNow}
-use Rattle.reach.specs.Tally.{Tally, tally, seatsOf}
+use Rattle.reach.specs.Reached.{Reached, seen}
+use Rattle.reach.specs.Counts.{isOf, seatsOf}
 use Rattle.reach.specs.FairShare.{holding, shareOf, limitOf, U, asks, Given, Fair, FairShare}
 use Rattle.reach.proofs.Tests.{by, before-first}
 use Rattle.reach.proofs.Count.{one, sum-same, sum-change, count-same}
-use Rattle.reach.proofs.Order.{InOrder}
-use Rattle.reach.proofs.Books.{heldBy, held-mine, held-not, held-free, planned}
+use Rattle.reach.proofs.InOrder.{InOrder}
+use Rattle.reach.proofs.WithinPlan.{heldBy, held-mine, held-not, held-free, planned}
 use Rattle.reach.proofs.Opens.{open-refusal, open-no-owner, free-seat}
-use Rattle.reach.proofs.Effects.{Effect, refuses, changes, begins, effect, after-effect}
-use Rattle.reach.proofs.Reached.{begun-in-order, begun-plan, reached-in-order}
-use Rattle.reach.proofs.Tally.{tally-row}
-
--- a call that does not answer ready leaves the plan
-takes-not : (c : Call) (a : Answer) (plan : List ℕ) → kind a ≢ ready → takes c a plan ≡ plan
-unfolding takes
-takes-not (Setup start new) a plan d = rw (ne-eqb _ _ d) refl
-takes-not (Open o) a plan d = refl
-takes-not (Read o s item) a plan d = refl
-takes-not (Write o s item value) a plan d = refl
-takes-not (Advance o s) a plan d = refl
-takes-not (Abandon o s) a plan d = refl
+use Rattle.reach.proofs.Reached.{reached-in-order}
+use Rattle.reach.proofs.Observed.{seat-is, plan-stays}
 
 -- what Open comes to
 pub opens : (t : Tables) (o : ℕ) → openRefusal t o ≡ 0 →
@@ -49,10 +36,10 @@ unfolding step openSeat
 opens t o e = rw e refl
 
 pub opens-not : (t : Tables) (o n : ℕ) → n ≢ 0 → openRefusal t o ≡ n → asks t o ≡ Refused n
-opens-not t o n d e = ap (λ (z : Outcome). z .answer) kept
+opens-not t o n d e = ap (λ (z : Outcome). z .answer) same
   where
-    kept : step t (Open o) ≡ keep t (Refused n)
-    kept = unfold step openSeat in rw (e, ne-eqb n 0 d) refl
+    same : step t (Open o) ≡ keep t (Refused n)
+    same = unfold step openSeat in rw (e, ne-eqb n 0 d) refl
 
 -- the three answers to an owner
 pub data Asked (t : Tables) (o : ℕ) : Type 0 where
@@ -64,7 +51,7 @@ pub asked : (t : Tables) → InOrder t → (o : ℕ) → o < owners → Asked t 
 unfolding crowded
 asked t k o small =
     let e = open-refusal t k o small in
-    let most = k .books .limits o small in
+    let most = k .within .limits o small in
     by (leb (limitOf t o) (holding t o))
     (λ a. let x = leb-true (limitOf t o) (holding t o) a in at-limit (omega arith) (opens-not t o 6 (omega arith) (e ∙ rw a refl)))
     (λ a. let x = leb-false (limitOf t o) (holding t o) a in
@@ -96,15 +83,15 @@ module _ (t : Tables) (k : InOrder t) (o : ℕ) (small : o < owners) where
   fair-from : Asked t o → Fair t o
   fair-from (at-limit a e) =
       let kd : kind (asks t o) ≡ refused = ap kind e in
-      let sh = planned (t .seats) (k .books .plan) .shares o small in
+      let sh = planned (t .seats) (k .within .plan) .shares o small in
       record {
         below-share = λ h. absurd (omega arith);
         six = (λ q. a, λ q. e);
         seven = λ d. absurd (d a);
         else-seat = (λ q. absurd (omega arith), λ q. absurd (q .0 a));
         lowest-given = λ q. absurd (omega arith);
-        within-limit = k .books .limits o small;
-        share-kept = sh;
+        within-limit = k .within .limits o small;
+        share-within = sh;
       }
   fair-from (no-room d h u e) =
       let kd : kind (asks t o) ≡ refused = ap kind e in
@@ -115,8 +102,8 @@ module _ (t : Tables) (k : InOrder t) (o : ℕ) (small : o < owners) where
         seven = λ x y. (λ q. u, λ q. e);
         else-seat = (λ q. absurd (omega arith), λ q. absurd (⊎-elim (λ x. omega arith) (λ x. x u) (q .1)));
         lowest-given = λ q. absurd (omega arith);
-        within-limit = k .books .limits o small;
-        share-kept = planned (t .seats) (k .books .plan) .shares o small;
+        within-limit = k .within .limits o small;
+        share-within = planned (t .seats) (k .within .plan) .shares o small;
       }
   fair-from (gets-seat d h e) =
       let kd : kind (asks t o) ≡ seat = ap kind (told-seat e) in
@@ -126,8 +113,8 @@ module _ (t : Tables) (k : InOrder t) (o : ℕ) (small : o < owners) where
         seven = λ x y. (λ q. absurd (let y : kind (asks t o) ≡ refused = ap kind q in omega arith), λ q. absurd (⊎-elim (λ z. omega arith) (λ z. z q) h));
         else-seat = (λ q. (d, h), λ q. kd);
         lowest-given = λ q. rw (told-seat e) (given e);
-        within-limit = k .books .limits o small;
-        share-kept = planned (t .seats) (k .books .plan) .shares o small;
+        within-limit = k .within .limits o small;
+        share-within = planned (t .seats) (k .within .plan) .shares o small;
       }
 
 -- a seat in use is held by one owner
@@ -160,46 +147,25 @@ module _ (l : List ℕ) where
       let b = one-owner n (own n (omega arith)) in
       omega arith
 
--- the plan is that of the last Setup that answered ready
-plan-effect : (t : Tables) (c : Call) (o : Outcome) (plan : List ℕ) → Effect t c o → ((i : ℕ) → i < planWidth → getD (t .seats) i 0 ≡ getD plan i 0) →
-    (i : ℕ) → i < planWidth → getD (o .tables .seats) i 0 ≡ getD (takes c (o .answer) plan) i 0
-plan-effect t c o plan (refuses n d e) h i l =
-    rw (ap (λ (z : Outcome). z .tables) e, ap (λ (z : Outcome). z .answer) e, takes-not c (Refused n) plan (λ q. omega arith)) (h i l)
-plan-effect t c o plan (changes s low a g ch b told) h i l = rw (takes-not c (o .answer) plan (told .plain)) (ch .becomes .plan i l ∙ h i l)
-plan-effect t c o plan (begins start new q e m a b z p) h i l = rw (q, e) (unfold takes in p i l)
-
-plan-run : (t : Tables) (plan : List ℕ) → InOrder t → (cs : List Call) → ((i : ℕ) → i < planWidth → getD (t .seats) i 0 ≡ getD plan i 0) → (i : ℕ) →
-    i < planWidth → getD (run t cs .seats) i 0 ≡ getD (planAfter (history t cs) plan) i 0
-unfolding run history planAfter
-plan-run t plan k [] h = h
-plan-run t plan k (c ∷ cs) h =
-    plan-run (step t c .tables) (takes c (step t c .answer) plan) (after-effect t c (step t c) k (effect t k c)) cs (plan-effect t c (step t c) plan (effect t k c) h)
-
-pub plan-kept : (t : Tables) (z : Reached t) (i : ℕ) → i < planWidth → getD (t .seats) i 0 ≡ getD (planNow z) i 0
-plan-kept t z i l =
-    ap (λ (t : Tables). getD (t .seats) i 0) (sym (z .now))
-    ∙ plan-run _ (z .plan) (begun-in-order (z .opening) (z .start) (z .plan) (z .answered)) (z .calls) (begun-plan (z .opening) (z .start) (z .plan) (z .answered)) i l
-
 -- held seats can be told from calls and answers
 pub held-seen : (t : Tables) (z : Reached t) (o : ℕ) → holding t o ≡ seatsOf o (seen z)
 unfolding held holds
 held-seen t z o =
-    let mine : Tally → Bool = λ k. k .isOpen && eqb (k .holder) o in
-    count-same (λ s. mine (tally s (seen z))) (holds (t .seats) o) seatCount (λ s. ap mine (tally-row t z s))
+    count-same (λ s. isOf o (seen z .seats s)) (holds (t .seats) o) seatCount (λ s. ap (isOf o) (sym (seat-is t z s)))
 
 -- NO QUEUE WITHOUT A FAIR SHARE
 pub fair-share : (t : Tables) (z : Reached t) → FairShare t z
 unfolding held
 fair-share t z =
     let k = reached-in-order t z in
-    let p = planned (t .seats) (k .books .plan) in
+    let p = planned (t .seats) (k .within .plan) in
     record {
       each = λ o h. fair-from t k o h (asked t k o h);
-      plan-kept = λ o h. (plan-kept t z (shareAt o) (omega arith), plan-kept t z (limitAt o) (omega arith));
+      plan-stays = λ o h. (plan-stays t z (shareAt o) (omega arith), plan-stays t z (limitAt o) (omega arith));
       held-seen = held-seen t z;
       no-owner = λ o h. opens-not t o 2 (omega arith) (open-no-owner t k o h);
       all-held = all-held (t .seats) seatCount (λ s h d. k .rows s h .in-use d .head .owner-in);
       limits-fit = p .limits;
       shares-fit = p .total;
-      room = k .books .room;
+      U-fits = k .within .claims-fit;
     }

@@ -7,11 +7,11 @@ use mathlib.Core.List.{List}
 use native.Mathlib.Omega.{arith}
 use borrow.Author.Tests.{eqb-true, eqb-false, eq-eqb, ne-eqb}
 use lib.Dec.{eqb}
-use lib.ListN.{length, getD, take, length-set}
+use lib.ListN.{length, getD, take}
 use lib.Seq.{getD-set-same, getD-set-other}
 use Rattle.clock.specs.Word.{isLocked, withLock}
 use Rattle.clock.specs.Laws.{withLock-is, withLock-twice}
-use Rattle.rules.specs.Layout.{seatCount, seatsLength, phaseAt, ownerAt, positionAt, readsAt, writesAt, row, phase, reads, writes, readItem, writeItem}
+use Rattle.rules.specs.Layout.{seatCount, seatsLength, phaseAt, ownerAt, positionAt, readsAt, writesAt, timeAt, row, phase, reads, writes, writeItem}
 use Rattle.rules.specs.Places.{length-row}
 use Rattle.rules.specs.Tables.{Tables, after}
 use Rattle.rules.specs.Answers.{ready, refused, kind}
@@ -20,23 +20,21 @@ use Rattle.rules.specs.Advance.{heldLocks, released, letGo}
 use Rattle.rules.specs.declared.Answer.{Answer}
 use Rattle.rows.specs.Changed.{freeRow, free-at}
 use Rattle.rows.specs.Becomes.{becomes-freed}
+use Rattle.rows.specs.Released.{length-released}
+use Rattle.observer.specs.Observer.{Seen, unseen}
+use Rattle.observer.proofs.Segments.{seg}
+use Rattle.observer.proofs.Entries.{readAt, writeAt}
 use Rattle.reach.specs.Invariants.{lockFrom, lockTo}
-use Rattle.reach.specs.Tally.{Tally, nothing, adds}
 use Rattle.reach.specs.Life.{script}
 use Rattle.reach.proofs.Tests.{by}
 use Rattle.reach.proofs.Count.{one, one-le}
-use Rattle.reach.proofs.Order.{Zero, Used, locks, listed, lockBit}
-use Rattle.reach.proofs.Named.{named-has, named-none, named-empty, locks-none}
-use Rattle.reach.proofs.Rows.{row-zero, from-zero, to-early, to-held, passes-early}
-use Rattle.reach.proofs.Books.{held-free}
-use Rattle.reach.proofs.Steps.{tallyOf, tally-is, Step}
+use Rattle.reach.proofs.InOrder.{Zero, Used, locks, lockBit}
+use Rattle.reach.proofs.Named.{named-has, named-none, locks-none}
+use Rattle.reach.proofs.Rows.{row-zero, from-zero, to-early, to-held, steps-early}
+use Rattle.reach.proofs.WithinPlan.{held-free}
+use Rattle.reach.proofs.Steps.{seenOf, seen-as, left-none, Step}
 
 -- THE WORDS with a row's first n locks cleared
-pub length-released : (words g : List ℕ) (n : ℕ) → length (released words g n) ≡ length words
-unfolding released
-length-released words g zero = refl
-length-released words g (suc n) = length-set (released words g n) _ _ ∙ length-released words g n
-
 cleared-twice : (words g : List ℕ) (n x : ℕ) → x < length words → withLock false (getD (released words g n) x 0) ≡ withLock false (getD words x 0)
 unfolding released
 cleared-twice words g zero x h = refl
@@ -70,8 +68,8 @@ released-miss words g (suc n) x h =
     ∙ released-miss words g n x (λ i l. h i (omega arith))
 
 -- AN ANSWER THAT ENDS a transaction
-pub record Ends (a : Answer) : Type 0 where
-  pub ends : (y : ℕ) (k : Tally) → adds y a k ≡ nothing
+pub record Ends (f : Seen → Answer → Seen) (a : Answer) : Type 0 where
+  pub ends : (x : Seen) → f x a ≡ unseen
   pub plain : kind a ≢ ready
   pub given : kind a ≢ refused
 
@@ -87,30 +85,33 @@ module _ (g : List ℕ) (z : Zero g) where
       let e = to-early g (omega arith) in
       locks-none g item (omega arith)
 
-  pub tally-free : tallyOf g ≡ nothing
-  unfolding listed
-  tally-free =
-      let a = free-phase in
-      let r = z readsAt (omega arith) in
-      let w = z writesAt (omega arith) in
-      tally-is g nothing
-      (rw (eq-eqb (phase g) 0 a) refl)
-      (z ownerAt (omega arith))
-      (ap (λ (n : ℕ). take n (script (writes g) (reads g))) (passes-early g (omega arith) ∙ z positionAt (omega arith)))
-      (ne-eqb (phase g) 4 (omega arith))
-      (λ x. named-empty (writeItem g) 0 (writes g) x (omega arith))
-      (ap (listed (readItem g)) r)
-      locks-free
+  pub seen-free : seenOf g ≡ unseen
+  unfolding seg
+  seen-free =
+      let e = free-phase in
+      let none : phase g ≢ 4 = omega arith in
+      seen-as g unseen
+      (record {
+        is-open = rw (eq-eqb (phase g) 0 e) refl;
+        is-holder = z ownerAt (omega arith);
+        is-advances = ap (λ (n : ℕ). take n (script (writes g) (reads g))) (steps-early g (omega arith) ∙ z positionAt (omega arith));
+        is-sealed = ne-eqb (phase g) 4 none;
+        shows = record { is-reads = ap (seg (readAt g) 0) (z readsAt (omega arith)); is-writes = ap (seg (writeAt g) 0) (z writesAt (omega arith)) };
+        is-locked = locks-free;
+        is-key = z timeAt (omega arith);
+        is-left = left-none g none;
+      })
 
-module _ (t : Tables) (s y : ℕ) (size : length (t .seats) ≡ seatsLength) (small : s < seatCount) (u : Used (length (t .words)) (row (t .seats) s)) where
+module _ (t : Tables) (s : ℕ) (f : Seen → Answer → Seen) (size : length (t .seats) ≡ seatsLength) (small : s < seatCount)
+    (u : Used (length (t .words)) (row (t .seats) s)) where
   -- freed, with words that are unlocked where the row held them, and else as they were
-  pub free-step : (words : List ℕ) (a : Answer) → Ends a → length words ≡ length (t .words) →
+  pub free-step : (words : List ℕ) (a : Answer) → Ends f a → length words ≡ length (t .words) →
       ((x : ℕ) → x < length (t .words) → locks (row (t .seats) s) x ≡ true → getD words x 0 ≡ withLock false (getD (t .words) x 0)) →
       ((x : ℕ) → x < length (t .words) → locks (row (t .seats) s) x ≡ false → getD words x 0 ≡ getD (t .words) x 0) →
-      Step t s y (after a (t .values) words (freed (t .seats) s))
+      Step t s f (after a (t .values) words (freed (t .seats) s))
   free-step words a e as-many hit miss =
       let g : List ℕ = row (t .seats) s in
-      let zero-row : Zero freeRow = (λ f h. free-at f) in
+      let zero-row : Zero freeRow = (λ i h. free-at i) in
       record {
         next = freeRow;
         change = record {
@@ -132,11 +133,11 @@ module _ (t : Tables) (s y : ℕ) (size : length (t .seats) ≡ seatsLength) (sm
               (λ q. rw (miss x h q) le);
         };
         mine = λ w. rw (held-free freeRow w (free-at phaseAt)) (omega arith);
-        told = record { tallied = tally-free freeRow zero-row ∙ sym (e .ends y (tallyOf g)); fair = λ q. absurd (e .given q); plain = e .plain };
+        told = record { shown = seen-free freeRow zero-row ∙ sym (e .ends (seenOf g)); fair = λ q. absurd (e .given q); plain = e .plain };
       }
 
   -- an abort, or Abandon, before phase 4
-  pub lets-go : (a : Answer) → Ends a → phase (row (t .seats) s) ≤ 3 → Step t s y (letGo t s a)
+  pub lets-go : (a : Answer) → Ends f a → phase (row (t .seats) s) ≤ 3 → Step t s f (letGo t s a)
   unfolding letGo locks
   lets-go a e p =
       let g : List ℕ = row (t .seats) s in
@@ -147,4 +148,5 @@ module _ (t : Tables) (s y : ℕ) (size : length (t .seats) ≡ seatsLength) (sm
       (λ x h q. let k = named-has (writeItem g) (lockFrom g) (lockTo g) x q in
       let b = k .1 .below in
       released-hit (t .words) g n (k .0) x h (omega arith) (k .1 .named))
-      (λ x h q. released-miss (t .words) g n x (λ i b z. named-none (writeItem g) (lockFrom g) (lockTo g) x i q (record { from = omega arith; below = omega arith; named = z })))
+      (λ x h q. released-miss (t .words) g n x
+      (λ i b z. named-none (writeItem g) (lockFrom g) (lockTo g) x i q (record { from = omega arith; below = omega arith; named = z })))

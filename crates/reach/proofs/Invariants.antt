@@ -3,7 +3,7 @@ use Prim.Native.Nat.{ℕ, _<_, _≤_}
 use mathlib.Core.Path.{_≡_, sym, ap, _∙_}
 use mathlib.Core.Logic.{_≢_}
 use mathlib.Core.Bool.{Bool, true}
-use mathlib.Core.List.{List}
+use mathlib.Core.List.{List, map}
 use native.Mathlib.Omega.{arith}
 use native.Mathlib.Decide.{decLt}
 use borrow.Author.Tests.{eqb-true, eqb-false}
@@ -14,19 +14,20 @@ use Rattle.clock.specs.Laws.{writeTime-small}
 use Rattle.rules.specs.Tests.{count}
 use Rattle.rules.specs.Layout.{seatCount, row, reads, readItem, writeItem}
 use Rattle.rules.specs.Tables.{Tables}
+use Rattle.observer.specs.Observer.{Seen}
+use Rattle.observer.proofs.Segments.{seg-at, seg-map}
+use Rattle.observer.proofs.Entries.{readAt}
 use Rattle.reach.specs.Reached.{Reached}
-use Rattle.reach.specs.Tally.{Tally}
-use Rattle.reach.specs.Invariants.{Holds, LockedIsHeld, OneHolder, AlwaysSized, NeverDamaged, InUse, WritesAscend}
+use Rattle.reach.specs.Invariants.{firstItem, Holds, LockedIsHeld, OneHolder, AlwaysSized, NeverDamaged, InUse, WritesAscend}
 use Rattle.reach.specs.Invariants.{ReadsDistinct, ReadsInOrder, ReadsInRange, WritesInRange, UnusedReadsZero, UnusedWritesZero, UntimedZero}
 use Rattle.reach.specs.Invariants.{FreeRowsZero, WordsTimely, KeptTimely, CommitTimely, KeptOrdered, CommitNotBelow}
 use Rattle.reach.proofs.Tests.{by}
 use Rattle.reach.proofs.Count.{one, one-le, count-has, count-some, count-two}
-use Rattle.reach.proofs.Order.{locks, InOrder, Used}
+use Rattle.reach.proofs.InOrder.{locks, InOrder, Used}
 use Rattle.reach.proofs.Named.{named-yes, named-has}
-use Rattle.reach.proofs.Listed.{listed-at}
 use Rattle.reach.proofs.Rows.{undamaged}
 use Rattle.reach.proofs.Reached.{reached-in-order}
-use Rattle.reach.proofs.Tally.{tally-row, reads-are}
+use Rattle.reach.proofs.Observed.{seat-is, reads-are}
 
 -- LOCKS
 holds-locks : (t : Tables) (s item : ℕ) → Holds t s item → locks (row (t .seats) s) item ≡ true
@@ -87,8 +88,12 @@ module _ (t : Tables) (z : Reached t) where
 
   pub reads-in-order : ReadsInOrder t z
   reads-in-order s low =
-      let g : List ℕ = row (t .seats) s in
-      (reads-are t z s low, λ i l. sym (listed-at (readItem g) (reads g) i l) ∙ ap (λ (k : Tally). getD (k .read) i 0) (tally-row t z s))
+      let g : List ℕ = row (t .seats) s in (
+        reads-are t z s,
+        λ i l. sym (seg-at (readItem g) (reads g) i l)
+            ∙ ap (λ (l : List ℕ). getD l i 0) (sym (seg-map (firstItem t) (readAt g) (reads g) 0))
+            ∙ ap (λ (x : Seen). getD (map (firstItem t) (x .reads)) i 0) (sym (seat-is t z s)),
+      )
 
   pub reads-in-range : ReadsInRange t
   reads-in-range s i u = used s u .entries .read-in i

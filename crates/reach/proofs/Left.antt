@@ -14,7 +14,8 @@ use Rattle.rules.specs.Answers.{dropped, refused, aborted, kind}
 use Rattle.rules.specs.Refusals.{refusal}
 use Rattle.rules.specs.Plan.{setupRefusal, setup, openRefusal, openSeat}
 use Rattle.rules.specs.Work.{readOf, writeOf, firstRead, readIn, read, writeIn, write}
-use Rattle.rules.specs.Advance.{heldLocks, letGo, lockStep, commitTime, timeStep, judged, passed, ruled, checkStep, sealStep, storeStep, doneStep, lockPhase, checkPhase, storePhase, advanceIn, advance, abandon}
+use Rattle.rules.specs.Advance.{heldLocks, letGo, lockStep, commitTime, timeStep, judged, passed, ruled, checkStep, sealStep, storeStep}
+use Rattle.rules.specs.Advance.{doneStep, lockPhase, checkPhase, storePhase, advanceIn, advance, abandon}
 use Rattle.rules.specs.Calls.{Call, Setup, Open, Read, Write, Advance, Abandon, step, history, told}
 use Rattle.rules.specs.declared.Answer.{Answer}
 use Rattle.rules.specs.declared.Answer.the-variants.{Ready, Seat, Value, Noted, Locked, Timed, Checked, Sealed, Stored, Done, Dropped, Refused, Aborted}
@@ -23,8 +24,9 @@ use Rattle.rules.specs.declared.Verdict.the-variants.{Passes, Extends, Fails}
 use Rattle.rows.specs.Fine.{cond-ind, Fine, fine, fine-row, locks-small, write-item}
 use Rattle.rows.specs.Changed.{free-at}
 use Rattle.rows.specs.Becomes.{becomes-freed}
+use Rattle.rows.specs.Released.{length-released}
 use Rattle.reach.specs.Left.{EachAnswered, RefusalLeavesAll, LetGo, AbortLetsGo, AbandonLetsGo}
-use Rattle.reach.proofs.Freed.{length-released, released-hit, released-miss}
+use Rattle.reach.proofs.Freed.{released-hit, released-miss}
 
 pub each-answered : EachAnswered
 unfolding history told
@@ -111,8 +113,10 @@ module _ (t : Tables) (o s : ℕ) (f : Fine t o s 0 4) where
       cond-ind Left (eqb (phase g) 1) (λ e. lock-leaves (let q = eqb-true (phase g) 1 e in omega arith))
       (λ _. cond-ind Left (eqb (phase g) 2) (λ e. lock-leaves (let q = eqb-true (phase g) 2 e in omega arith))
       (λ _. cond-ind Left (eqb (phase g) 3)
-      (λ e. cond-ind Left (ltb (position g) (reads g)) (λ _. ruled-leaves (eqb-true (phase g) 3 e) (judged (t .words) g)) (λ _. plain t _ (Sealed _) _ refl refl))
-      (λ _. cond-ind Left (eqb (phase g) 4) (λ _. cond-ind Left (ltb (position g) (writes g)) (λ _. plain t _ (Stored _) _ refl refl) (λ _. plain t _ (Done _) _ refl refl))
+      (λ e. cond-ind Left (ltb (position g) (reads g)) (λ _. ruled-leaves (eqb-true (phase g) 3 e) (judged (t .words) g))
+      (λ _. plain t _ (Sealed _) _ refl refl))
+      (λ _. cond-ind Left (eqb (phase g) 4)
+      (λ _. cond-ind Left (ltb (position g) (writes g)) (λ _. plain t _ (Stored _) _ refl refl) (λ _. plain t _ (Done _) _ refl refl))
       (λ _. refusing t _ 3))))
 
 leaves : (t : Tables) (c : Call) → Leaves t c (step t c)

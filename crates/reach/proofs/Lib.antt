@@ -1,13 +1,12 @@
 -- The proofs of specs/, from the ground up.
--- Tests and counts; the invariant (Order) and the laws of its parts: records named, words answered, rows, the plan
+-- Tests and counts; the invariant (InOrder) and the laws of its parts: records named, words answered, rows, the plan
 pub mod Tests
 pub mod Count
-pub mod Order
+pub mod InOrder
 pub mod Named
-pub mod Listed
 pub mod Script
 pub mod Rows
-pub mod Books
+pub mod WithinPlan
 -- what one call does to one row (Steps), call by call, and any call (Effects)
 pub mod Steps
 pub mod Freed
@@ -19,7 +18,7 @@ pub mod Begin
 pub mod Effects
 -- the theorems
 pub mod Reached
-pub mod Tally
+pub mod Observed
 pub mod Invariants
 pub mod FairShare
 pub mod Life

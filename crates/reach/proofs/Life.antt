@@ -17,84 +17,88 @@ use Rattle.rules.specs.Answers.{refused, kind}
 use Rattle.rules.specs.Refusals.{misnamed, foreign, refusal}
 use Rattle.rules.specs.Work.{readIn, read, writeIn, write}
 use Rattle.rules.specs.Advance as A
-use Rattle.rules.specs.Advance.{letGo, lockStep, timeStep, commitTime, judged, ruled, checkStep, sealStep, storeStep, doneStep, lockPhase, checkPhase, storePhase, advanceIn, advance, abandon}
+use Rattle.rules.specs.Advance.{letGo, lockStep, timeStep, commitTime, judged, ruled, checkStep, sealStep, storeStep, doneStep, lockPhase}
+use Rattle.rules.specs.Advance.{checkPhase, storePhase, advanceIn, advance, abandon}
 use Rattle.rules.specs.Calls.{Advance, step}
 use Rattle.rules.specs.declared.Answer.the-variants.{Dropped}
 use Rattle.rules.specs.declared.Verdict.{Verdict}
 use Rattle.rules.specs.declared.Verdict.the-variants.{Passes, Extends, Fails}
 use Rattle.rows.specs.Fine.{fine}
+use Rattle.observer.specs.Observer.{Seen}
 use Rattle.reach.specs.Reached.{Reached, seen}
-use Rattle.reach.specs.Tally.{Tally, tally, made, w, r}
+use Rattle.reach.specs.Counts.{advanceCount, writeCount, readCount}
 use Rattle.reach.specs.Life.{script, Life, LifeOfEach}
 use Rattle.reach.proofs.Tests.{by}
-use Rattle.reach.proofs.Script.{script-length, Word, says-aborted, says-locked, says-timed, says-checked, says-sealed, says-stored, says-done, word-script, word-done, word-sealed}
-use Rattle.reach.proofs.Order.{Used, passes, InOrder}
-use Rattle.reach.proofs.Rows.{undamaged, passes-early, passes-three, passes-four, early-fits}
+use Rattle.reach.proofs.Script.{script-length, NextKind, says-aborted, says-locked, says-timed, says-checked, says-sealed}
+use Rattle.reach.proofs.Script.{says-stored, says-done, kind-script, kind-done, kind-sealed}
+use Rattle.reach.proofs.InOrder.{Used, stepsTaken, InOrder}
+use Rattle.reach.proofs.Rows.{undamaged, steps-early, steps-three, steps-four, early-fits}
 use Rattle.reach.proofs.Opens.{not-unsized}
 use Rattle.reach.proofs.Effects.{used-of}
 use Rattle.reach.proofs.Reached.{reached-in-order}
-use Rattle.reach.proofs.Tally.{tally-row, writes-are, reads-are}
+use Rattle.reach.proofs.Observed.{seat-is, writes-are, reads-are}
 
 -- AN ADVANCE OF A ROW IN ORDER
 module _ (t : Tables) (s : ℕ) (u : Used (length (t .words)) (row (t .seats) s)) where
   abbrev g : List ℕ
   g = row (t .seats) s
 
-  abbrev Told : Outcome → Type 0
-  Told o = Word (writes g) (reads g) (passes g) (kind (o .answer))
+  abbrev Says : Outcome → Type 0
+  Says o = NextKind (writes g) (reads g) (stepsTaken g) (kind (o .answer))
 
-  early-word : phase g ≤ 2 → Told (lockPhase t s)
+  early-kind : phase g ≤ 2 → Says (lockPhase t s)
   unfolding lockPhase lockStep timeStep letGo
-  early-word p =
-      let a = passes-early g p in
+  early-kind p =
+      let a = steps-early g p in
       let f = early-fits g (u .head) p in
       by (ltb (position g) (writes g))
       (λ e. let l = ltb-true (position g) (writes g) e in
-      rw e (by (isLocked (getD (t .words) (writeItem g (position g)) 0)) (λ y. rw y (says-aborted (omega arith) refl)) (λ y. rw y (says-locked (omega arith) refl))))
+      rw e (by (isLocked (getD (t .words) (writeItem g (position g)) 0))
+      (λ y. rw y (says-aborted (omega arith) refl)) (λ y. rw y (says-locked (omega arith) refl))))
       (λ e. let l = ltb-false (position g) (writes g) e in
       rw e (by (ltb top (commitTime (t .words) g)) (λ y. rw y (says-aborted (omega arith) refl)) (λ y. rw y (says-timed (omega arith) refl))))
 
-  ruled-word : phase g ≡ 3 → position g < reads g → (v : Verdict) → Told (ruled t s v)
+  ruled-kind : phase g ≡ 3 → position g < reads g → (v : Verdict) → Says (ruled t s v)
   unfolding ruled A.passed letGo
-  ruled-word p l Passes = let a = passes-three g p in says-checked (position g) l (omega arith) refl
-  ruled-word p l Extends = let a = passes-three g p in says-checked (position g) l (omega arith) refl
-  ruled-word p l (Fails n) = let a = passes-three g p in says-aborted (omega arith) refl
+  ruled-kind p l Passes = let a = steps-three g p in says-checked (position g) l (omega arith) refl
+  ruled-kind p l Extends = let a = steps-three g p in says-checked (position g) l (omega arith) refl
+  ruled-kind p l (Fails n) = let a = steps-three g p in says-aborted (omega arith) refl
 
-  pub advance-word : Told (advanceIn t s)
+  pub advance-kind : Says (advanceIn t s)
   unfolding advanceIn checkPhase checkStep storePhase sealStep storeStep doneStep
-  advance-word =
+  advance-kind =
       let h = u .head in
       let hu = h .used in
       let hp = h .phase-in in
-      by (eqb (phase g) 1) (λ e1. rw e1 (early-word (let q = eqb-true (phase g) 1 e1 in omega arith)))
-      (λ e1. rw e1 (by (eqb (phase g) 2) (λ e2. rw e2 (early-word (let q = eqb-true (phase g) 2 e2 in omega arith)))
+      by (eqb (phase g) 1) (λ e1. rw e1 (early-kind (let q = eqb-true (phase g) 1 e1 in omega arith)))
+      (λ e1. rw e1 (by (eqb (phase g) 2) (λ e2. rw e2 (early-kind (let q = eqb-true (phase g) 2 e2 in omega arith)))
       (λ e2. rw e2 (by (eqb (phase g) 3)
       (λ e3. let p = eqb-true (phase g) 3 e3 in
-      let a = passes-three g p in
+      let a = steps-three g p in
       let f = h .checking p in
       rw e3 (by (ltb (position g) (reads g))
-      (λ e. rw e (ruled-word p (ltb-true _ _ e) (judged (t .words) g)))
+      (λ e. rw e (ruled-kind p (ltb-true _ _ e) (judged (t .words) g)))
       (λ e. let l = ltb-false (position g) (reads g) e in rw e (says-sealed (omega arith) refl))))
       (λ e3. let d1 : phase g ≢ 1 = eqb-false _ _ e1 in
       let d2 : phase g ≢ 2 = eqb-false _ _ e2 in
       let d3 : phase g ≢ 3 = eqb-false _ _ e3 in
       let p : phase g ≡ 4 = omega arith in
-      let a = passes-four g p in
+      let a = steps-four g p in
       let f = h .storing p in
       rw (e3, eq-eqb (phase g) 4 p) (by (ltb (position g) (writes g))
       (λ e. let l = ltb-true (position g) (writes g) e in rw e (says-stored (position g) l (omega arith) refl))
       (λ e. let l = ltb-false (position g) (writes g) e in rw e (says-done (omega arith) refl))))))))
 
   -- how far a row in use can be
-  passes-in : passes g < 2 * writes g + reads g + 3
-  passes-in =
+  steps-in : stepsTaken g < 2 * writes g + reads g + 3
+  steps-in =
       let h = u .head in
       let hp = h .phase-in in
       by (ltb (phase g) 3)
-      (λ e. let l = ltb-true (phase g) 3 e in let a = passes-early g (omega arith) in let f = early-fits g h (omega arith) in omega arith)
+      (λ e. let l = ltb-true (phase g) 3 e in let a = steps-early g (omega arith) in let f = early-fits g h (omega arith) in omega arith)
       (λ e. let l = ltb-false (phase g) 3 e in by (eqb (phase g) 3)
-      (λ y. let p = eqb-true (phase g) 3 y in let a = passes-three g p in let f = h .checking p in omega arith)
-      (λ y. let d : phase g ≢ 3 = eqb-false _ _ y in let p : phase g ≡ 4 = omega arith in let a = passes-four g p in let f = h .storing p in omega arith))
+      (λ y. let p = eqb-true (phase g) 3 y in let a = steps-three g p in let f = h .checking p in omega arith)
+      (λ y. let d : phase g ≢ 3 = eqb-false _ _ y in let p : phase g ≡ 4 = omega arith in let a = steps-four g p in let f = h .storing p in omega arith))
 
 -- A TRANSACTION'S LIFE
 module _ (t : Tables) (z : Reached t) (s : ℕ) (low : s < seatCount) where
@@ -102,30 +106,30 @@ module _ (t : Tables) (z : Reached t) (s : ℕ) (low : s < seatCount) where
   k = reached-in-order t z
 
   -- how far it is, in use or not
-  script-fits : passes (row (t .seats) s) < length (script (writes (row (t .seats) s)) (reads (row (t .seats) s)))
+  script-fits : stepsTaken (row (t .seats) s) < length (script (writes (row (t .seats) s)) (reads (row (t .seats) s)))
   script-fits =
       let g : List ℕ = row (t .seats) s in
       let a = script-length (writes g) (reads g) in
       by (eqb (phase g) 0)
-      (λ e. let q = eqb-true (phase g) 0 e in let b = passes-early g (omega arith) in let c = k .rows s low .free q positionAt (omega arith) in omega arith)
-      (λ e. let b = passes-in t s (k .rows s low .in-use (eqb-false _ _ e)) in omega arith)
+      (λ e. let q = eqb-true (phase g) 0 e in let b = steps-early g (omega arith) in let c = k .rows s low .free q positionAt (omega arith) in omega arith)
+      (λ e. let b = steps-in t s (k .rows s low .in-use (eqb-false _ _ e)) in omega arith)
 
-  pub made-is : passes (row (t .seats) s) ≡ made (tally s (seen z))
-  made-is =
+  pub advances-are : stepsTaken (row (t .seats) s) ≡ advanceCount (seen z .seats s)
+  advances-are =
       let l = script-fits in
-      sym (length-take-le (passes (row (t .seats) s)) _ (omega arith)) ∙ ap made (tally-row t z s)
+      sym (length-take-le (stepsTaken (row (t .seats) s)) _ (omega arith)) ∙ ap advanceCount (sym (seat-is t z s))
 
-  pub sealed-four : tally s (seen z) .isSealed ≡ true → phase (row (t .seats) s) ≡ 4
-  sealed-four h = eqb-true _ _ (ap (λ (k : Tally). k .isSealed) (tally-row t z s) ∙ h)
+  pub sealed-four : seen z .seats s .isSealed ≡ true → phase (row (t .seats) s) ≡ 4
+  sealed-four h = eqb-true _ _ (ap (λ (x : Seen). x .isSealed) (sym (seat-is t z s)) ∙ h)
 
   -- an Advance that is not refused
   pub says : (o : ℕ) → kind (step t (Advance o s) .answer) ≢ refused →
-      Word (w (tally s (seen z))) (r (tally s (seen z))) (made (tally s (seen z))) (kind (step t (Advance o s) .answer))
+      NextKind (writeCount (seen z .seats s)) (readCount (seen z .seats s)) (advanceCount (seen z .seats s)) (kind (step t (Advance o s) .answer))
   unfolding step advance
   says o =
       by (eqb (refusal t o s 0 4) 0)
       (λ e d. let f = fine t o s 0 4 (eqb-true _ _ e) in
-      rw (e, ← writes-are t z s low, ← reads-are t z s low, ← made-is) (advance-word t s (used-of t k o s 0 4 f)))
+      rw (e, ← writes-are t z s, ← reads-are t z s, ← advances-are) (advance-kind t s (used-of t k o s 0 4 f)))
       (λ e d. absurd (d (rw e refl)))
 
   -- a call that names the seat is refused where the row is past the call's last phase
@@ -135,14 +139,17 @@ module _ (t : Tables) (z : Reached t) (s : ℕ) (low : s < seatCount) where
       (λ e. let f = fine t o s x last (eqb-true _ _ e) in let p = f .phase-in in absurd (omega arith))
       (λ e. rw e refl)
 
-  pub made-past : 1 ≤ made (tally s (seen z)) → 1 < phase (row (t .seats) s)
-  made-past h =
+  pub advanced-past : 1 ≤ advanceCount (seen z .seats s) → 1 < phase (row (t .seats) s)
+  advanced-past h =
       let g : List ℕ = row (t .seats) s in
-      let m = made-is in
+      let m = advances-are in
       by (eqb (phase g) 0)
-      (λ e. let q = eqb-true (phase g) 0 e in let a = passes-early g (omega arith) in let b = k .rows s low .free q positionAt (omega arith) in absurd (omega arith))
+      (λ e. let q = eqb-true (phase g) 0 e in
+      let a = steps-early g (omega arith) in
+      let b = k .rows s low .free q positionAt (omega arith) in
+      absurd (omega arith))
       (λ e. let d : phase g ≢ 0 = eqb-false _ _ e in by (eqb (phase g) 1)
-      (λ y. let q = eqb-true (phase g) 1 y in let a = passes-early g (omega arith) in let b = k .rows s low .in-use d .head .working q in absurd (omega arith))
+      (λ y. let q = eqb-true (phase g) 1 y in let a = steps-early g (omega arith) in let b = k .rows s low .in-use d .head .working q in absurd (omega arith))
       (λ y. let q : phase g ≢ 1 = eqb-false _ _ y in omega arith))
 
   five : phase (row (t .seats) s) ≡ 4 → refusal t (owner (row (t .seats) s)) s 0 3 ≡ 5
@@ -156,24 +163,24 @@ module _ (t : Tables) (z : Reached t) (s : ℕ) (low : s < seatCount) where
       let mine = eq-eqb (owner g) (owner g) refl in
       rw (not-unsized t k, whose, lt-leb seatCount s low, named, sound, ne-eqb (phase g) 0 (omega arith), mine, lt-ltb 3 (phase g) (omega arith)) refl
 
-  pub life : Life t s (tally s (seen z))
+  pub life : Life t s (seen z .seats s)
   unfolding step read write abandon
   life =
       record {
-        so-far = rw (← made-is, ← writes-are t z s low, ← reads-are t z s low) (ap (λ (k : Tally). k .words) (sym (tally-row t z s)));
-        in-order = λ o d n. word-script (says o d) n;
-        done-exactly = λ o d. word-done (says o d);
-        never-past = rw (← made-is, ← writes-are t z s low, ← reads-are t z s low) script-fits;
-        settled = λ h o x v. (refused-past o x 1 (readIn t s x) (made-past h), refused-past o x 1 (writeIn t s x v) (made-past h));
+        so-far = rw (← advances-are, ← writes-are t z s, ← reads-are t z s) (ap (λ (x : Seen). x .advances) (seat-is t z s));
+        in-order = λ o d n. kind-script (says o d) n;
+        done-exactly = λ o d. kind-done (says o d);
+        never-past = rw (← advances-are, ← writes-are t z s, ← reads-are t z s) script-fits;
+        settled = λ h o x v. (refused-past o x 1 (readIn t s x) (advanced-past h), refused-past o x 1 (writeIn t s x v) (advanced-past h));
         never-aborted = λ h o q.
             let p = sealed-four h in
-            let a = passes-four (row (t .seats) s) p in
-            let m = made-is in
-            let x = writes-are t z s low in
-            let y = reads-are t z s low in
-            word-sealed (says o (λ e. omega arith)) (omega arith) q;
+            let a = steps-four (row (t .seats) s) p in
+            let m = advances-are in
+            let x = writes-are t z s in
+            let y = reads-are t z s in
+            kind-sealed (says o (λ e. omega arith)) (omega arith) q;
         not-abandoned = λ h o. let p = sealed-four h in refused-past o 0 3 (letGo t s (Dropped s)) (omega arith);
-        abandon-five = λ h. rw (← ap (λ (k : Tally). k .holder) (tally-row t z s), five (sealed-four h)) refl;
+        abandon-five = λ h. rw (← ap (λ (x : Seen). x .holder) (sym (seat-is t z s)), five (sealed-four h)) refl;
       }
 
 pub life-of-each : (t : Tables) → LifeOfEach t

@@ -1,5 +1,5 @@
 -- Each step of an Advance.
-use Prim.Native.Nat.{ℕ, _+_, _*_, _<_, _≤_}
+use Prim.Native.Nat.{ℕ, _+_, _-_, _*_, _<_, _≤_}
 use mathlib.Core.Path.{_≡_, refl, sym, ap, _∙_}
 use mathlib.Core.Logic.{_≢_}
 use mathlib.Core.Bool.{Bool, true, false, cond, not, _&&_, _||_, and-true, and-false, true≢false}
@@ -10,11 +10,13 @@ use lib.Dec.{leb, ltb, eqb}
 use lib.ListN.{length, getD, set, length-set}
 use Rattle.clock.specs.Word.{top, isLocked, writeTime, readTime, withLock, fresh, extended}
 use Rattle.clock.specs.Laws.{withLock-is, fresh-is, extended-is}
-use Rattle.rules.specs.Layout.{seatCount, seatsLength, positionAt, timeAt, readItemAt, writeItemAt, row, put, phase, position, reads, writes, time, readItem, keptWrite, writeItem, writeValue}
+use Rattle.rules.specs.Layout.{seatCount, seatsLength, positionAt, timeAt, writeItemAt, row, put, phase, position, reads, writes, time}
+use Rattle.rules.specs.Layout.{keptWrite, writeItem, writeValue}
 use Rattle.rules.specs.Places.{length-row}
 use Rattle.rules.specs.Tables.{Tables, after}
 use Rattle.rules.specs.Answers.{locked, stored, kind}
-use Rattle.rules.specs.Advance.{moved, lockStep, commitTime, timeStep, verdict, checkItem, judged, stretched, passed, ruled, checkStep, sealStep, effect, storeStep, doneStep, lockPhase, checkPhase, storePhase, advanceIn}
+use Rattle.rules.specs.Advance.{moved, lockStep, commitTime, timeStep, verdict, checkItem, judged, stretched, passed, ruled, checkStep}
+use Rattle.rules.specs.Advance.{sealStep, effect, storeStep, doneStep, lockPhase, checkPhase, storePhase, advanceIn}
 use Rattle.rules.specs.declared.Answer.{Answer}
 use Rattle.rules.specs.declared.Answer.the-variants.{Locked, Timed, Checked, Sealed, Stored, Done, Dropped, Aborted}
 use Rattle.rules.specs.declared.Verdict.{Verdict}
@@ -22,31 +24,33 @@ use Rattle.rules.specs.declared.Verdict.the-variants.{Passes, Extends, Fails}
 use Rattle.rows.specs.Changed.{movedRow, Nudged, not-nudged, nudge-phase, nudge-position, nudge-time}
 use Rattle.rows.specs.Becomes.{Becomes, becomes-put, becomes-moved, then-put}
 use Rattle.rules.specs.CommitTime.{commit-kept}
+use Rattle.observer.specs.Observer.{oneMore, onAdvance, onAbandon}
+use Rattle.observer.proofs.Segments.{length-seg}
+use Rattle.observer.proofs.Entries.{writeAt, writeEntries, nudged-at, nudged-reads, nudged-writes, nudged-firstReads, nudged-writeEntries}
 use Rattle.reach.specs.Invariants.{lockFrom, lockTo}
-use Rattle.reach.specs.Tally.{oneMore, adds}
 use Rattle.reach.proofs.Tests.{by, or-true, or-false}
 use Rattle.reach.proofs.Count.{one, one-le}
-use Rattle.reach.proofs.Order.{Head, Used, locks, listed, passes, lockBit}
-use Rattle.reach.proofs.Listed.{listed-same}
-use Rattle.reach.proofs.Script.{script-length, Word, says-locked, says-timed, says-checked, says-sealed, says-stored, word-next}
-use Rattle.reach.proofs.Named.{named-yes, named-no, named-same, named-alike, locks-same, locks-none}
-use Rattle.reach.proofs.Rows.{nudged-at, nudged-owner, nudged-reads, nudged-writes, nudged-head, used-nudged, row-used, from-zero, from-four, to-early, to-late, passes-early, passes-three, passes-four, early-fits}
-use Rattle.reach.proofs.Books.{held-less}
-use Rattle.reach.proofs.Steps.{Follows, StaysTimely, tallyOf, tally-is, Told, Step, set-ind}
+use Rattle.reach.proofs.InOrder.{Head, Used, locks, stepsTaken, lockBit}
+use Rattle.reach.proofs.Script.{script-length, NextKind, says-locked, says-timed, says-checked, says-sealed, says-stored, kind-next}
+use Rattle.reach.proofs.Named.{named-yes, named-no, named-same, locks-same, locks-none}
+use Rattle.reach.proofs.Rows.{nudged-owner, nudged-head, used-nudged, row-used, from-zero, from-four, to-early, to-late, steps-early}
+use Rattle.reach.proofs.Rows.{steps-three, steps-four, early-fits}
+use Rattle.reach.proofs.WithinPlan.{held-less}
+use Rattle.reach.proofs.Steps.{Follows, StaysTimely, seenOf, seen-as, left-four, left-none, Tells, Step, set-ind}
 use Rattle.reach.proofs.Freed.{Ends, free-step, lets-go}
 
 -- the answers that end a transaction
-pub aborts : (n : ℕ) → Ends (Aborted n)
-unfolding adds
-aborts n = record { ends = λ y k. refl; plain = λ e. omega arith; given = λ e. omega arith }
+pub aborts : (n : ℕ) → Ends onAdvance (Aborted n)
+unfolding onAdvance
+aborts n = record { ends = λ x. refl; plain = λ e. omega arith; given = λ e. omega arith }
 
-pub drops : (n : ℕ) → Ends (Dropped n)
-unfolding adds
-drops n = record { ends = λ y k. refl; plain = λ e. omega arith; given = λ e. omega arith }
+pub drops : (n : ℕ) → Ends onAbandon (Dropped n)
+unfolding onAbandon
+drops n = record { ends = λ x. refl; plain = λ e. omega arith; given = λ e. omega arith }
 
-dones : (n : ℕ) → Ends (Done n)
-unfolding adds
-dones n = record { ends = λ y k. refl; plain = λ e. omega arith; given = λ e. omega arith }
+dones : (n : ℕ) → Ends onAdvance (Done n)
+unfolding onAdvance
+dones n = record { ends = λ x. refl; plain = λ e. omega arith; given = λ e. omega arith }
 
 -- a verdict that extends, extends a word whose write time is the kept one
 by-tests : (a b : Bool) (o : Verdict) → cond a Passes (cond (not b) (Fails 22) o) ≡ Extends → b ≡ true
@@ -64,34 +68,37 @@ record Further (g h : List ℕ) (k : ℕ) : Type 0 where
   most : k ≤ stored
   was-used : 1 ≤ phase g
   is-used : 1 ≤ phase h
-  fits : passes g < 2 * writes g + reads g + 3
-  further : passes h ≡ passes g + 1
+  fits : stepsTaken g < 2 * writes g + reads g + 3
+  further : stepsTaken h ≡ stepsTaken g + 1
 
--- a nudge leaves the entries, and so the records written and read
-told-more : (y : ℕ) {g h : List ℕ} {ph p tm : ℕ} (a : Answer) (b : Bool) (held : ℕ → Bool) → Nudged g h ph p tm →
-    Word (writes g) (reads g) (passes g) (kind a) → Further g h (kind a) → eqb (phase h) 4 ≡ b → ((x : ℕ) → locks h x ≡ held x) →
-    oneMore a b held (tallyOf g) ≡ adds y a (tallyOf g) → Told y g h a
-told-more y {g} {h} a b held n x f e holds same =
+-- a nudge leaves the entries, and so what is written and read
+tells-more : {g h : List ℕ} {ph p tm : ℕ} (a : Answer) (b : Bool) (held : ℕ → Bool) (key left : ℕ) → Nudged g h ph p tm →
+    NextKind (writes g) (reads g) (stepsTaken g) (kind a) → Further g h (kind a) → eqb (phase h) 4 ≡ b → ((x : ℕ) → locks h x ≡ held x) → tm ≡ key →
+    cond (eqb (phase h) 4) (writes h - position h) 0 ≡ left → oneMore (seenOf g) a b held key left ≡ onAdvance (seenOf g) a → Tells onAdvance g h a
+tells-more {g} {h} a b held key left n x f e holds is-key is-left same =
     let w = nudged-writes n in
     let r = nudged-reads n in
     let z = script-length (writes g) (reads g) in
     let fits = f .fits in
     record {
-      tallied =
-          tally-is h (oneMore a b held (tallyOf g))
-          (ap not (ne-eqb (phase h) 0 (let q = f .is-used in omega arith) ∙ sym (ne-eqb (phase g) 0 (let q = f .was-used in omega arith))))
-          (nudged-owner n)
-          (rw (f .further, w, r) (word-next x (λ q. omega (arith, f .most)) (omega arith)))
-          e
-          (named-alike (writeItem g) (writeItem h) 0 (writes g) 0 (writes h) refl w (λ i l. nudged-at n (writeItemAt i) (omega arith)))
-          (ap (listed (readItem h)) r ∙ listed-same (readItem g) (readItem h) (reads g) (λ i l. nudged-at n (readItemAt i) (omega arith)))
-          holds
+      shown =
+          seen-as h (oneMore (seenOf g) a b held key left)
+          (record {
+            is-open = ap not (ne-eqb (phase h) 0 (let q = f .is-used in omega arith) ∙ sym (ne-eqb (phase g) 0 (let q = f .was-used in omega arith)));
+            is-holder = nudged-owner n;
+            is-advances = rw (f .further, w, r) (kind-next x (λ q. omega (arith, f .most)) (omega arith));
+            is-sealed = e;
+            shows = record { is-reads = nudged-firstReads n; is-writes = nudged-writeEntries n };
+            is-locked = holds;
+            is-key = n .is-time ∙ is-key;
+            is-left = is-left;
+          })
           ∙ same;
       fair = λ q. absurd (omega (arith, f .most));
       plain = λ q. omega (arith, f .least);
     }
 
-module _ (t : Tables) (s y : ℕ) (size : length (t .seats) ≡ seatsLength) (small : s < seatCount) (u : Used (length (t .words)) (row (t .seats) s)) where
+module _ (t : Tables) (s : ℕ) (size : length (t .seats) ≡ seatsLength) (small : s < seatCount) (u : Used (length (t .words)) (row (t .seats) s)) where
   abbrev g : List ℕ
   g = row (t .seats) s
 
@@ -101,7 +108,7 @@ module _ (t : Tables) (s y : ℕ) (size : length (t .seats) ≡ seatsLength) (sm
   -- a step whose row is nudged
   nudge-step : (values words seats h : List ℕ) (a : Answer) {ph p tm : ℕ} → Becomes (t .seats) seats s h → Nudged g h ph p tm →
       length values ≡ length (t .values) → length words ≡ length (t .words) → Head h → (3 ≤ ph → (i : ℕ) → i < reads g → keptWrite g i ≤ tm) →
-      Follows (t .words) words g h → StaysTimely (t .words) words → Told y g h a → Step t s y (after a values words seats)
+      Follows (t .words) words g h → StaysTimely (t .words) words → Tells onAdvance g h a → Step t s onAdvance (after a values words seats)
   nudge-step values words seats h a b n ev ew hd k lk tk told =
       let us = u .head .used in
       record {
@@ -119,17 +126,21 @@ module _ (t : Tables) (s y : ℕ) (size : length (t .seats) ≡ seatsLength) (sm
   still-checking h n from e late = still h n (from ∙ sym (from-zero g (omega arith))) (to-late h late ∙ nudged-writes n ∙ sym (to-late g (omega arith)))
 
   -- by words whose locks are the same
-  calm : (words h : List ℕ) → ((x : ℕ) → x < length (t .words) → lockBit words x ≡ lockBit (t .words) x) → ((x : ℕ) → locks h x ≡ locks g x) →
+  follows-same : (words h : List ℕ) → ((x : ℕ) → x < length (t .words) → lockBit words x ≡ lockBit (t .words) x) → ((x : ℕ) → locks h x ≡ locks g x) →
       Follows (t .words) words g h
-  calm words h eb same x l le = let a = eb x l in let b : one (locks h x) ≡ one (locks g x) = ap one (same x) in omega arith
+  follows-same words h eb same x l le = let a = eb x l in let b : one (locks h x) ≡ one (locks g x) = ap one (same x) in omega arith
 
   not-four : (h : List ℕ) → phase g ≢ 4 → phase h ≢ 4 → eqb (phase h) 4 ≡ eqb (phase g) 4
   not-four h a b = ne-eqb _ _ b ∙ sym (ne-eqb _ _ a)
 
+  none-left : (h : List ℕ) → phase g ≢ 4 → phase h ≢ 4 →
+      cond (eqb (phase h) 4) (writes h - position h) 0 ≡ cond (eqb (phase g) 4) (writes g - position g) 0
+  none-left h a b = left-none h b ∙ sym (left-none g a)
+
   -- PHASES 1 AND 2
   take-lock : phase g ≤ 2 → position g < writes g → (x word : ℕ) → x ≡ writeItem g (position g) → word ≡ getD (t .words) x 0 → isLocked word ≡ false →
-      Step t s y (after (Locked x) (t .values) (set (t .words) x (withLock true word)) (moved (t .seats) s 2 (position g + 1)))
-  unfolding locks adds
+      Step t s onAdvance (after (Locked x) (t .values) (set (t .words) x (withLock true word)) (moved (t .seats) s 2 (position g + 1)))
+  unfolding locks onAdvance
   take-lock p b x word ex ew free =
       let q : ℕ = position g + 1 in
       let h : List ℕ = movedRow g 2 (position g + 1) in
@@ -146,8 +157,8 @@ module _ (t : Tables) (s y : ℕ) (size : length (t .seats) ≡ seatsLength) (sm
       let lh = from-zero h (omega arith) in
       let th = to-early h (omega arith) in
       let ent : (i : ℕ) → writeItem h i ≡ writeItem g i = (λ i. nudged-at n (writeItemAt i) (omega arith)) in
-      let pg = passes-early g p in
-      let ph = passes-early h (omega arith) in
+      let pg = steps-early g p in
+      let ph = steps-early h (omega arith) in
       let now = withLock-is true word in
       let taken : locks h x ≡ true =
       named-yes (writeItem h) (lockFrom h) (lockTo h) x (position g) (record { from = omega arith; below = omega arith; named = ent (position g) ∙ sym ex }) in
@@ -162,7 +173,8 @@ module _ (t : Tables) (s y : ℕ) (size : length (t .seats) ≡ seatsLength) (sm
       (λ z. by (eqb x z)
       (λ e. rw e (ap (locks h) (sym (eqb-true x z e)) ∙ taken ∙ sym (or-true (locks g z))))
       (λ e. rw e (others z (eqb-false x z e) ∙ sym (or-false (locks g z))))) in
-      nudge-step (t .values) (set (t .words) x (withLock true word)) (moved (t .seats) s 2 q) h (Locked x) (becomes-moved (t .seats) s 2 q) n refl (length-set (t .words) x (withLock true word))
+      nudge-step (t .values) (set (t .words) x (withLock true word)) (moved (t .seats) s 2 q) h (Locked x) (becomes-moved (t .seats) s 2 q) n refl
+      (length-set (t .words) x (withLock true word))
       (omega arith)
       (λ k. absurd (omega arith))
       (λ z l le. set-ind (λ v. one (isLocked v) + one (locks g z) ≡ lockBit (t .words) z + one (locks h z)) (t .words) x (withLock true word) z inside
@@ -173,48 +185,51 @@ module _ (t : Tables) (s y : ℕ) (size : length (t .seats) ≡ seatsLength) (sm
       (λ d. let b2 : one (locks h z) ≡ one (locks g z) = ap one (others z d) in omega arith))
       (λ z l le. set-ind (λ v. readTime v ≤ top) (t .words) x (withLock true word) z inside
       (λ e. rw (now .is-read, ew, e) le) (λ d. le))
-      (told-more y (Locked x) _ _ n (says-locked (omega arith) refl) (omega arith) (not-four h (omega arith) (omega arith)) more refl)
+      (tells-more (Locked x) _ _ (time g) _ n (says-locked (omega arith) refl) (omega arith) (not-four h (omega arith) (omega arith)) more refl
+      (none-left h (omega arith) (omega arith)) refl)
 
-  lock-ok : phase g ≤ 2 → position g < writes g → Step t s y (lockStep t s)
+  lock-ok : phase g ≤ 2 → position g < writes g → Step t s onAdvance (lockStep t s)
   unfolding lockStep
   lock-ok p b =
       by (isLocked (getD (t .words) (writeItem g (position g)) 0))
-      (λ e. rw e (lets-go t s y size small u (Aborted 21) (aborts 21) (omega arith)))
+      (λ e. rw e (lets-go t s onAdvance size small u (Aborted 21) (aborts 21) (omega arith)))
       (λ e. rw e (take-lock p b (writeItem g (position g)) _ refl refl e))
 
   timed-ok : phase g ≤ 2 → position g ≡ writes g → (tc : ℕ) → ((i : ℕ) → i < reads g → keptWrite g i ≤ tc) → tc ≤ top →
-      Step t s y (after (Timed tc) (t .values) (t .words) (put (moved (t .seats) s 3 0) s timeAt tc))
-  unfolding adds
+      Step t s onAdvance (after (Timed tc) (t .values) (t .words) (put (moved (t .seats) s 3 0) s timeAt tc))
+  unfolding onAdvance
   timed-ok p e tc kept late =
       let h : List ℕ = set (movedRow g 3 0) timeAt tc in
       let n = nudge-time (nudge-position (nudge-phase whole 3) 0) tc in
       let m = nudged-head n in
       let ho = u .head .owner-in in
       let hu = u .head .used in
-      let pg = passes-early g p in
-      let ph = passes-three h (n .is-phase) in
+      let pg = steps-early g p in
+      let ph = steps-three h (n .is-phase) in
       let from = from-zero h (omega arith) ∙ sym (from-zero g (omega arith)) in
       let same = still h n from (to-late h (omega arith) ∙ nudged-writes n ∙ sym e ∙ sym (to-early g p)) in
-      nudge-step (t .values) (t .words) (put (moved (t .seats) s 3 0) s timeAt tc) h (Timed tc) (then-put timeAt tc (omega arith) (becomes-moved (t .seats) s 3 0)) n refl refl
+      nudge-step (t .values) (t .words) (put (moved (t .seats) s 3 0) s timeAt tc) h (Timed tc)
+      (then-put timeAt tc (omega arith) (becomes-moved (t .seats) s 3 0)) n refl refl
       (omega arith)
       (λ q. kept)
-      (calm (t .words) h (λ x l. refl) same)
+      (follows-same (t .words) h (λ x l. refl) same)
       (λ x l le. le)
-      (told-more y (Timed tc) _ _ n (says-timed (omega arith) refl) (omega arith) (not-four h (omega arith) (omega arith)) same refl)
+      (tells-more (Timed tc) _ _ tc _ n (says-timed (omega arith) refl) (omega arith) (not-four h (omega arith) (omega arith)) same refl
+      (none-left h (omega arith) (omega arith)) refl)
 
-  time-ok : phase g ≤ 2 → writes g ≤ position g → Step t s y (timeStep t s)
+  time-ok : phase g ≤ 2 → writes g ≤ position g → Step t s onAdvance (timeStep t s)
   unfolding timeStep
   time-ok p b =
       let tc : ℕ = commitTime (t .words) g in
       let e : position g ≡ writes g = (let q = early-fits g (u .head) p in omega arith) in
       by (ltb top tc)
-      (λ k. rw k (lets-go t s y size small u (Aborted 24) (aborts 24) (omega arith)))
+      (λ k. rw k (lets-go t s onAdvance size small u (Aborted 24) (aborts 24) (omega arith)))
       (λ k. rw k (timed-ok p e tc (commit-kept (t .words) g) (ltb-false top tc k)))
 
   -- PHASE 3
   pass-ok : phase g ≡ 3 → position g < reads g → (words : List ℕ) → length words ≡ length (t .words) →
-      ((x : ℕ) → x < length (t .words) → lockBit words x ≡ lockBit (t .words) x) → StaysTimely (t .words) words → Step t s y (passed t s words)
-  unfolding passed adds
+      ((x : ℕ) → x < length (t .words) → lockBit words x ≡ lockBit (t .words) x) → StaysTimely (t .words) words → Step t s onAdvance (passed t s words)
+  unfolding passed onAdvance
   pass-ok p b words ew eb et =
       let q : ℕ = position g + 1 in
       let h : List ℕ = set g positionAt (position g + 1) in
@@ -222,18 +237,19 @@ module _ (t : Tables) (s y : ℕ) (size : length (t .seats) ≡ seatsLength) (sm
       let m = nudged-head n in
       let ho = u .head .owner-in in
       let ht = u .head .timely in
-      let pg = passes-three g p in
-      let ph = passes-three h (omega arith) in
+      let pg = steps-three g p in
+      let ph = steps-three h (omega arith) in
       let same = still-checking h n (from-zero h (omega arith)) p (omega arith) in
       nudge-step (t .values) words (put (t .seats) s positionAt q) h (Checked (checkItem g)) (becomes-put (t .seats) s positionAt q (omega arith)) n refl ew
       (omega arith)
       (u .not-below)
-      (calm words h eb same)
+      (follows-same words h eb same)
       et
-      (told-more y (Checked (checkItem g)) _ _ n (says-checked (position g) b (omega arith) refl) (omega arith) (not-four h (omega arith) (omega arith))
-      same refl)
+      (tells-more (Checked (checkItem g)) _ _ (time g) _ n (says-checked (position g) b (omega arith) refl) (omega arith)
+      (not-four h (omega arith) (omega arith)) same refl
+      (none-left h (omega arith) (omega arith)) refl)
 
-  ruled-ok : phase g ≡ 3 → position g < reads g → (v : Verdict) → judged (t .words) g ≡ v → Step t s y (ruled t s v)
+  ruled-ok : phase g ≡ 3 → position g < reads g → (v : Verdict) → judged (t .words) g ≡ v → Step t s onAdvance (ruled t s v)
   unfolding ruled judged stretched
   ruled-ok p b Passes e = pass-ok p b (t .words) refl (λ x h. refl) (λ x h le. le)
   ruled-ok p b Extends e =
@@ -248,10 +264,10 @@ module _ (t : Tables) (s y : ℕ) (size : length (t .seats) ≡ seatsLength) (sm
       (λ q. ap one (now .is-locked ∙ ap (λ (j : ℕ). isLocked (getD (t .words) j 0)) q)) (λ d. refl))
       (λ z l le. set-ind (λ v. readTime v ≤ top) (t .words) x (extended word (time g)) z inside
       (λ q. rw (now .is-read) (u .head .timely)) (λ d. le))
-  ruled-ok p b (Fails why) e = lets-go t s y size small u (Aborted why) (aborts why) (omega arith)
+  ruled-ok p b (Fails why) e = lets-go t s onAdvance size small u (Aborted why) (aborts why) (omega arith)
 
-  seal-ok : phase g ≡ 3 → reads g ≤ position g → Step t s y (sealStep t s)
-  unfolding sealStep adds
+  seal-ok : phase g ≡ 3 → reads g ≤ position g → Step t s onAdvance (sealStep t s)
+  unfolding sealStep onAdvance
   seal-ok p b =
       let h : List ℕ = movedRow g 4 0 in
       let n = nudge-position (nudge-phase whole 4) 0 in
@@ -259,19 +275,21 @@ module _ (t : Tables) (s y : ℕ) (size : length (t .seats) ≡ seatsLength) (sm
       let ho = u .head .owner-in in
       let hc = u .head .checking p in
       let ht = u .head .timely in
-      let pg = passes-three g p in
-      let ph = passes-four h (n .is-phase) in
+      let pg = steps-three g p in
+      let ph = steps-four h (n .is-phase) in
       let same = still-checking h n (from-four h (n .is-phase) ∙ n .is-position) p (omega arith) in
+      let all-left : writes h - position h ≡ length (writeEntries g) = (let e = length-seg (writeAt g) (writes g) 0 in omega arith) in
       nudge-step (t .values) (t .words) (moved (t .seats) s 4 0) h (Sealed (time g)) (becomes-moved (t .seats) s 4 0) n refl refl
       (omega arith)
       (λ q. u .not-below (omega arith))
-      (calm (t .words) h (λ x l. refl) same)
+      (follows-same (t .words) h (λ x l. refl) same)
       (λ x l le. le)
-      (told-more y (Sealed (time g)) true _ n (says-sealed (omega arith) refl) (omega arith) (eq-eqb (phase h) 4 (n .is-phase)) same refl)
+      (tells-more (Sealed (time g)) true _ (time g) _ n (says-sealed (omega arith) refl) (omega arith) (eq-eqb (phase h) 4 (n .is-phase)) same refl
+      (left-four h (n .is-phase) ∙ all-left) refl)
 
   -- PHASE 4
-  store-ok : phase g ≡ 4 → position g < writes g → Step t s y (storeStep t s)
-  unfolding storeStep locks adds
+  store-ok : phase g ≡ 4 → position g < writes g → Step t s onAdvance (storeStep t s)
+  unfolding storeStep locks onAdvance
   store-ok p b =
       let x : ℕ = writeItem g (position g) in
       let v : ℕ = effect (writeValue g (position g)) (getD (t .values) x 0) in
@@ -282,8 +300,8 @@ module _ (t : Tables) (s y : ℕ) (size : length (t .seats) ≡ seatsLength) (sm
       let m = nudged-head n in
       let ho = u .head .owner-in in
       let ht = u .head .timely in
-      let pg = passes-four g p in
-      let ph = passes-four h (omega arith) in
+      let pg = steps-four g p in
+      let ph = steps-four h (omega arith) in
       let inside : x < length (t .words) = u .entries .write-in (position g) b in
       let lg = from-four g p in
       let tg = to-late g (omega arith) in
@@ -303,35 +321,40 @@ module _ (t : Tables) (s y : ℕ) (size : length (t .seats) ≡ seatsLength) (sm
       let j : i ≢ position g = (λ k. d (ap (λ (i : ℕ). writeItem g i) (sym k) ∙ r .named)) in
       record { from = omega arith; below = omega arith; named = ent i ∙ r .named })
       (λ i r. let a = r .from in let k = r .below in record { from = omega arith; below = omega arith; named = sym (ent i) ∙ r .named })) in
+      let one-less : writes h - position h ≡ cond (eqb (phase g) 4) (writes g - position g) 0 - 1 = (let e = left-four g p in omega arith) in
       let less : (z : ℕ) → locks h z ≡ (locks g z && not (eqb x z)) =
       (λ z. by (eqb x z)
       (λ e. rw e (ap (locks h) (sym (eqb-true x z e)) ∙ given ∙ sym (and-false (locks g z))))
       (λ e. rw e (others z (eqb-false x z e) ∙ sym (and-true (locks g z))))) in
-      nudge-step (set (t .values) x v) (set (t .words) x f) (put (t .seats) s positionAt q) h (Stored x) (becomes-put (t .seats) s positionAt q (omega arith)) n (length-set (t .values) x v) (length-set (t .words) x f)
+      nudge-step (set (t .values) x v) (set (t .words) x f) (put (t .seats) s positionAt q) h (Stored x)
+      (becomes-put (t .seats) s positionAt q (omega arith)) n (length-set (t .values) x v) (length-set (t .words) x f)
       (omega arith)
       (u .not-below)
       (λ z l le. set-ind (λ v. one (isLocked v) + one (locks g z) ≡ lockBit (t .words) z + one (locks h z)) (t .words) x f z inside
-      (λ e. let b0 : one (locks g z) ≡ 1 = ap one (named-yes (writeItem g) (lockFrom g) (lockTo g) z (position g) (record { from = omega arith; below = omega arith; named = e })) in
+      (λ e. let held : locks g z ≡ true =
+      named-yes (writeItem g) (lockFrom g) (lockTo g) z (position g) (record { from = omega arith; below = omega arith; named = e }) in
+      let b0 : one (locks g z) ≡ 1 = ap one held in
       let b1 : one (isLocked f) ≡ 0 = ap one (now .is-locked) in
       let b2 : one (locks h z) ≡ 0 = ap one (ap (locks h) (sym e) ∙ given) in
       let b3 = one-le (isLocked (getD (t .words) z 0)) in
       omega arith)
       (λ d. let b2 : one (locks h z) ≡ one (locks g z) = ap one (others z d) in omega arith))
       (λ z l le. set-ind (λ v. readTime v ≤ top) (t .words) x f z inside (λ e. rw (now .is-read) ht) (λ d. le))
-      (told-more y (Stored x) _ _ n (says-stored (position g) b (omega arith) refl) (omega arith) (ap (λ (k : ℕ). eqb k 4) (n .is-phase)) less refl)
+      (tells-more (Stored x) _ _ (time g) _ n (says-stored (position g) b (omega arith) refl) (omega arith) (ap (λ (k : ℕ). eqb k 4) (n .is-phase)) less refl
+      (left-four h (omega arith) ∙ one-less) refl)
 
-  done-ok : phase g ≡ 4 → writes g ≤ position g → Step t s y (doneStep t s)
+  done-ok : phase g ≡ 4 → writes g ≤ position g → Step t s onAdvance (doneStep t s)
   unfolding doneStep
   done-ok p b =
       let none : (x : ℕ) → locks g x ≡ false = (λ x. locks-none g x (let a = from-four g p in let k = to-late g (omega arith) in omega arith)) in
-      free-step t s y size small u (t .words) (Done (time g)) (dones (time g)) refl (λ x h q. absurd (true≢false (sym q ∙ none x))) (λ x h q. refl)
+      free-step t s onAdvance size small u (t .words) (Done (time g)) (dones (time g)) refl (λ x h q. absurd (true≢false (sym q ∙ none x))) (λ x h q. refl)
 
-  pub advance-ok : Step t s y (advanceIn t s)
+  pub advance-ok : Step t s onAdvance (advanceIn t s)
   unfolding advanceIn lockPhase checkPhase checkStep storePhase
   advance-ok =
       let hu = u .head .used in
       let hp = u .head .phase-in in
-      let early : phase g ≤ 2 → Step t s y (lockPhase t s) =
+      let early : phase g ≤ 2 → Step t s onAdvance (lockPhase t s) =
       (λ p. by (ltb (position g) (writes g)) (λ e. rw e (lock-ok p (ltb-true _ _ e))) (λ e. rw e (time-ok p (ltb-false _ _ e)))) in
       by (eqb (phase g) 1) (λ e1. rw e1 (early (let q = eqb-true (phase g) 1 e1 in omega arith)))
       (λ e1. rw e1 (by (eqb (phase g) 2) (λ e2. rw e2 (early (let q = eqb-true (phase g) 2 e2 in omega arith)))

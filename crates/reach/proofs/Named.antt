@@ -1,19 +1,18 @@
 -- Which records a run of entries names, be they write or read entries: laws of `named`, and of the locks that a row holds.
-use Prim.Native.Nat.{ℕ, zero, suc, _<_, _≤_}
-use mathlib.Core.Path.{_≡_, refl, sym, ap, _∙_}
+use Prim.Native.Nat.{ℕ, _<_, _≤_}
+use mathlib.Core.Path.{_≡_, refl, sym, _∙_}
 use mathlib.Core.Logic.{_≢_}
 use mathlib.Core.Bool.{Bool, true, false, _&&_, true≢false}
 use mathlib.Core.List.{List}
 use native.Mathlib.Omega.{arith}
 use borrow.Author.Tests.{le-leb, leb-true, eqb-true, eq-eqb, ltb-true}
 use lib.Dec.{leb, eqb}
-use Rattle.rules.specs.Tests.{first, count}
+use Rattle.rules.specs.Tests.{first}
 use Rattle.rules.specs.Layout.{writeItem}
 use Rattle.rows.specs.Search.{first-hit}
 use Rattle.reach.specs.Invariants.{lockFrom, lockTo, Names}
 use Rattle.reach.proofs.Tests.{by, both, same-test, some-any}
-use Rattle.reach.proofs.Count.{one, count-change, count-none}
-use Rattle.reach.proofs.Order.{named, locks}
+use Rattle.reach.proofs.InOrder.{named, locks}
 
 pub named-yes : (e : ℕ → ℕ) (lo hi item i : ℕ) → Names e lo hi item i → named e lo hi item ≡ true
 unfolding named
@@ -50,20 +49,6 @@ named-alike e d lo hi lo′ hi′ a b same item =
 
 pub named-empty : (e : ℕ → ℕ) (lo hi item : ℕ) → hi ≤ lo → named e lo hi item ≡ false
 named-empty e lo hi item h = named-no e lo hi item (λ i q. let a = q .from in let b = q .below in omega arith)
-
--- entries of distinct records name as many records as there are entries
-pub named-count : (e : ℕ → ℕ) (m n : ℕ) → ((i : ℕ) → i < n → e i < m) → ((i j : ℕ) → i < j → j < n → e i ≢ e j) → count (named e 0 n) m ≡ n
-named-count e m zero inside distinct = count-none (named e 0 0) m (λ x l. named-empty e 0 0 x (omega arith))
-named-count e m (suc k) inside distinct =
-    let i = named-count e m k (λ i l. inside i (omega arith)) (λ i j a l. distinct i j a (omega arith)) in
-    let before : one (named e 0 k (e k)) ≡ 0 = ap one (named-no e 0 k (e k) (λ j q. distinct j k (q .below) (omega arith) (q .named))) in
-    let after : one (named e 0 (suc k) (e k)) ≡ 1 = ap one (named-yes e 0 (suc k) (e k) k (record { from = omega arith; below = omega arith; named = refl })) in
-    let d =
-    count-change (named e 0 k) (named e 0 (suc k)) (e k) m (inside k (omega arith))
-    (λ x l z. named-same e e 0 k 0 (suc k) x
-    (λ j q. let b = q .below in record { from = omega arith; below = omega arith; named = q .named })
-    (λ j q. let b = q .below in let nk : j ≢ k = (λ y. z (sym (q .named) ∙ ap e y)) in record { from = omega arith; below = omega arith; named = q .named })) in
-    omega arith
 
 -- LOCKS: the same ends, the same entries; none
 pub locks-same : (g h : List ℕ) → lockFrom h ≡ lockFrom g → lockTo h ≡ lockTo g → ((i : ℕ) → i < lockTo g → writeItem h i ≡ writeItem g i) →

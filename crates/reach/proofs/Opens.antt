@@ -10,7 +10,7 @@ use lib.Dec.{leb, eqb}
 use lib.ListN.{length, take}
 use Rattle.rules.specs.Tests.{firstOf}
 use Rattle.rules.specs.Layout.{owners, seatCount, mostRecords, seatsLength, positionAt, readsAt, writesAt, timeAt}
-use Rattle.rules.specs.Layout.{row, phase, owner, position, reads, writes, time, readItem, share, limit}
+use Rattle.rules.specs.Layout.{row, phase, owner, position, reads, writes, time, share, limit}
 use Rattle.rules.specs.Places.{length-row}
 use Rattle.rules.specs.Tables.{Tables, after}
 use Rattle.rules.specs.Refusals.{unsized}
@@ -21,15 +21,17 @@ use Rattle.rows.specs.Fine.{first-none}
 use Rattle.rows.specs.FreeSeat.{seat-found}
 use Rattle.rows.specs.Changed.{openedRow, opened-row}
 use Rattle.rows.specs.Becomes.{becomes-opened}
-use Rattle.reach.specs.Tally.{adds}
+use Rattle.observer.specs.Observer.{givenTo}
+use Rattle.observer.proofs.Segments.{seg}
+use Rattle.observer.proofs.Entries.{readAt, writeAt}
 use Rattle.reach.specs.Life.{script}
 use Rattle.reach.proofs.Tests.{by, all-none, not-third}
 use Rattle.reach.proofs.Count.{one}
-use Rattle.reach.proofs.Order.{locks, listed, Books, InOrder}
-use Rattle.reach.proofs.Named.{named-empty, locks-none}
-use Rattle.reach.proofs.Rows.{row-used, to-early, passes-early}
-use Rattle.reach.proofs.Books.{books-open}
-use Rattle.reach.proofs.Steps.{tallyOf, tally-is, Change, Told}
+use Rattle.reach.proofs.InOrder.{locks, WithinPlan, InOrder}
+use Rattle.reach.proofs.Named.{locks-none}
+use Rattle.reach.proofs.Rows.{row-used, to-early, steps-early}
+use Rattle.reach.proofs.WithinPlan.{within-open}
+use Rattle.reach.proofs.Steps.{seen-as, left-none, Change, Tells}
 use Rattle.reach.proofs.Freed.{locks-free}
 
 -- tables in order are sized and sound
@@ -52,21 +54,21 @@ pub not-unsound : (t : Tables) → InOrder t → unsound (t .seats) ≡ false
 unfolding unsound badRow overLimit
 not-unsound t k =
     all-none _ (
-      k .books .plan,
+      k .within .plan,
       (
         none-any _ seatCount (λ s h. by (eqb (phase (row (t .seats) s)) 0)
             (λ e. let z = eqb-true (phase (row (t .seats) s)) 0 e in all-none _ (le-ltb 4 (phase (row (t .seats) s)) (omega arith), (rw e refl, tt)))
             (λ e. let u = k .rows s h .in-use (eqb-false _ _ e) in
             all-none _ (le-ltb 4 (phase (row (t .seats) s)) (u .head .phase-in), (rw e (lt-leb owners (owner (row (t .seats) s)) (u .head .owner-in)), tt)))),
         (
-          none-any _ owners (λ o h. le-ltb (limit (t .seats) o) (held (t .seats) o) (k .books .limits o h)),
-          (le-ltb seatCount (claims (t .seats)) (k .books .room), tt),
+          none-any _ owners (λ o h. le-ltb (limit (t .seats) o) (held (t .seats) o) (k .within .limits o h)),
+          (le-ltb seatCount (claims (t .seats)) (k .within .claims-fit), tt),
         ),
       ),
     )
 
 -- Open that is not refused
-pub record Room (t : Tables) (o : ℕ) : Type 0 where
+pub record MayOpen (t : Tables) (o : ℕ) : Type 0 where
   pub owner-in : o < owners
   pub below : held (t .seats) o < limit (t .seats) o
   pub fair : share (t .seats) o ≤ held (t .seats) o → claims (t .seats) ≢ seatCount
@@ -84,9 +86,9 @@ module _ (t : Tables) (k : InOrder t) (o : ℕ) where
   unfolding openRefusal firstOf
   open-no-owner h = rw (not-unsized t k, le-leb owners o h) refl
 
-  pub room : openRefusal t o ≡ 0 → Room t o
+  pub may-open : openRefusal t o ≡ 0 → MayOpen t o
   unfolding openRefusal crowded
-  room e =
+  may-open e =
       let r = first-none 0 _ e in
       record {
         owner-in = leb-false owners o (r .1 .0);
@@ -140,30 +142,36 @@ module _ (t : Tables) (k : InOrder t) (o : ℕ) where
           timely = λ x a e. e;
         }
 
-    pub open-told : Told o (row (t .seats) s) (openedRow o) (Seat s)
-    unfolding adds listed
-    open-told =
+    pub open-tells : Tells (λ x a. givenTo o) (row (t .seats) s) (openedRow o) (Seat s)
+    unfolding seg
+    open-tells =
         let z = opened-row o in
         let d0 : phase h ≡ 1 = z .is-phase in
-        let d2 : position h ≡ 0 = z .rest positionAt (omega arith) (omega arith) in
-        let d3 : reads h ≡ 0 = z .rest readsAt (omega arith) (omega arith) in
-        let d4 : writes h ≡ 0 = z .rest writesAt (omega arith) (omega arith) in
+        let none : phase h ≢ 4 = omega arith in
         record {
-          tallied =
-              tally-is h (adds o (Seat s) (tallyOf (row (t .seats) s)))
-              (ap not (ne-eqb (phase h) 0 (omega arith)))
-              (z .is-owner)
-              (ap (λ (n : ℕ). take n (script (writes h) (reads h))) (passes-early h (omega arith) ∙ d2))
-              (ne-eqb (phase h) 4 (omega arith))
-              (λ x. named-empty _ 0 (writes h) x (omega arith))
-              (ap (listed (readItem h)) d3)
-              (λ x. locks-none h x (let y = to-early h (omega arith) in omega arith));
+          shown =
+              seen-as h (givenTo o)
+              (record {
+                is-open = ap not (ne-eqb (phase h) 0 (omega arith));
+                is-holder = z .is-owner;
+                is-advances = ap (λ (n : ℕ). take n (script (writes h) (reads h)))
+                    (steps-early h (omega arith) ∙ z .rest positionAt (omega arith) (omega arith));
+                is-sealed = ne-eqb (phase h) 4 none;
+                shows = record {
+                  is-reads = ap (seg (readAt h) 0) (z .rest readsAt (omega arith) (omega arith));
+                  is-writes = ap (seg (writeAt h) 0) (z .rest writesAt (omega arith) (omega arith));
+                };
+                is-locked = λ x. locks-none h x (let y = to-early h (omega arith) in let p = z .rest positionAt (omega arith) (omega arith) in omega arith);
+                is-key = z .rest timeAt (omega arith) (omega arith);
+                is-left = left-none h none;
+              });
           fair = λ e. absurd (omega arith);
           plain = λ e. omega arith;
         }
 
-    pub open-books : Room t o → Books (opened (t .seats) s o)
-    open-books r =
+    pub open-within : MayOpen t o → WithinPlan (opened (t .seats) s o)
+    open-within r =
         let z = opened-row o in
         let d0 : phase h ≡ 1 = z .is-phase in
-        books-open (becomes-opened (t .seats) s o (length-row (t .seats) s (k .sized .rows) small)) small o (r .owner-in) free (omega arith) (z .is-owner) (r .below) (r .fair) (k .books)
+        within-open (becomes-opened (t .seats) s o (length-row (t .seats) s (k .sized .rows) small)) small o (r .owner-in) free (omega arith)
+        (z .is-owner) (r .below) (r .fair) (k .within)

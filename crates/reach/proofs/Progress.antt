@@ -3,7 +3,7 @@ use Prim.Native.Nat.{ℕ, zero, suc, _+_, _*_, _<_}
 use mathlib.Core.Path.{_≡_, refl, sym, ap, _∙_, subst}
 use mathlib.Core.Logic.{_≢_, _⊎_, inl, inr}
 use mathlib.Core.Bool.{Bool, true, false, cond, not, true≢false}
-use mathlib.Core.List.{List, [], _∷_, _++_}
+use mathlib.Core.List.{List, [], _∷_, _++_, List·Memᴰ·head as here, List·Memᴰ·tail as there}
 use native.Mathlib.Omega.{arith}
 use borrow.Author.Tests.{eqb-true, eqb-false, eq-eqb, ne-eqb, ltb-true, ltb-false, lt-leb, not-true}
 use lib.Dec.{eqb, ltb}
@@ -15,25 +15,27 @@ use Rattle.rules.specs.Refusals.{misnamed, refusal}
 use Rattle.rules.specs.Plan.{setupRefusal, setup, openRefusal, freeSeat, openSeat}
 use Rattle.rules.specs.Work.{readIn, read, writeIn, write}
 use Rattle.rules.specs.Advance.{letGo, storeStep, doneStep, storePhase, advanceIn, advance, abandon}
-use Rattle.rules.specs.Answers.{ready, sealed, stored, done, refused, kind, number}
+use Rattle.rules.specs.Answers.{sealed, stored, done, refused, kind, number}
 use Rattle.rules.specs.Calls.{Call, Setup, Open, Read, Write, Advance, Abandon, step, run, Event, history}
 use Rattle.rules.specs.declared.Answer.{Answer}
 use Rattle.rules.specs.declared.Answer.the-variants.{Ready, Seat, Value, Noted, Locked, Timed, Checked, Sealed, Stored, Done, Dropped, Refused, Aborted}
 use Rattle.rows.specs.Fine.{cond-ind, Fine, fine}
-use Rattle.reach.specs.Reached.{Reached, begun, seen}
-use Rattle.reach.specs.Tally.{Tally, adds, about, noted, tallied, tally, made, w, r}
+use Rattle.observer.specs.Observer.{Seen, Observer, givenTo, begunWith, onAdvance, observe, observed, isSetup, begins, NoSetup}
+use Rattle.observer.proofs.Changes.{changed-same, changed-other, refusal-shows}
+use Rattle.reach.specs.Reached.{Reached, begun, records, seen}
+use Rattle.reach.specs.Counts.{advanceCount, writeCount, readCount}
 use Rattle.reach.specs.Life.{advanced}
-use Rattle.reach.specs.Refusals.{known, seatDue}
-use Rattle.reach.specs.Progress.{Progress, ProgressOfEach, isAdvance, advancesOf, noneReady, ending, EndsExactly}
+use Rattle.reach.specs.Refusals.{seatDue}
+use Rattle.reach.specs.Progress.{Progress, ProgressOfEach, isAdvance, advancesOf, ending, EndsExactly}
 use Rattle.reach.proofs.Tests.{by, both, all-none}
-use Rattle.reach.proofs.Order.{InOrder}
-use Rattle.reach.proofs.Rows.{passes-four}
-use Rattle.reach.proofs.Script.{word-given, word-sealing}
+use Rattle.reach.proofs.InOrder.{InOrder}
+use Rattle.reach.proofs.Rows.{steps-four}
+use Rattle.reach.proofs.Script.{kind-given, kind-sealing}
 use Rattle.reach.proofs.Opens.{free-seat}
 use Rattle.reach.proofs.Reached.{records-told, reached-in-order}
-use Rattle.reach.proofs.Tally.{writes-are, reads-are}
-use Rattle.reach.proofs.Life.{advance-word, made-is, sealed-four, says}
-use Rattle.reach.proofs.Refusals.{seat-is, refusal-is, late-leave, never-late}
+use Rattle.reach.proofs.Observed.{seat-is, writes-are, reads-are}
+use Rattle.reach.proofs.Life.{advance-kind, advances-are, sealed-four, says}
+use Rattle.reach.proofs.Refusals.{refusal-is, late-leave, never-late}
 
 -- an Advance that is not refused, and one of a sealed seat
 fine-step : (t : Tables) (o s : ℕ) → refusal t o s 0 4 ≡ 0 → step t (Advance o s) ≡ advanceIn t s
@@ -65,62 +67,62 @@ module _ (t : Tables) (z : Reached t) (s : ℕ) (low : s < seatCount) where
   k : InOrder t
   k = reached-in-order t z
 
-  holder-is : tally s (seen z) .holder ≡ owner (row (t .seats) s)
-  holder-is = ap (λ (k : Tally). k .holder) (seat-is t z s)
+  holder-is : seen z .seats s .holder ≡ owner (row (t .seats) s)
+  holder-is = ap (λ (x : Seen). x .holder) (seat-is t z s)
 
-  open-used : tally s (seen z) .isOpen ≡ true → phase (row (t .seats) s) ≢ 0
-  open-used h = eqb-false (phase g) 0 (not-true _ (ap (λ (k : Tally). k .isOpen) (sym (seat-is t z s)) ∙ h))
+  open-used : seen z .seats s .isOpen ≡ true → phase (row (t .seats) s) ≢ 0
+  open-used h = eqb-false (phase g) 0 (not-true _ (ap (λ (x : Seen). x .isOpen) (sym (seat-is t z s)) ∙ h))
 
   -- it is refused for nothing but coming too late
-  holder-due : (late : Bool) → tally s (seen z) .isOpen ≡ true → seatDue (known z) (tally s (seen z) .holder) s 0 late ≡ cond late 5 0
+  holder-due : (late : Bool) → seen z .seats s .isOpen ≡ true → seatDue (records z) (seen z) (seen z .seats s .holder) s 0 late ≡ cond late 5 0
   unfolding seatDue misnamed
   holder-due late h =
       let some = k .sized .some in
       let told = records-told t z in
       let own = k .rows s low .in-use (open-used h) .head .owner-in in
-      let named : misnamed (known z .records) (tally s (seen z) .holder) s 0 ≡ false =
-      all-none _ (lt-leb owners (tally s (seen z) .holder) (rw holder-is own), (lt-leb seatCount s low, (lt-leb (known z .records) 0 (omega arith), tt))) in
-      rw (named, h, eq-eqb (tally s (seen z) .holder) (tally s (seen z) .holder) refl) refl
+      let named : misnamed (records z) (seen z .seats s .holder) s 0 ≡ false =
+      all-none _ (lt-leb owners (seen z .seats s .holder) (rw holder-is own), (lt-leb seatCount s low, (lt-leb (records z) 0 (omega arith), tt))) in
+      rw (named, h, eq-eqb (seen z .seats s .holder) (seen z .seats s .holder) refl) refl
 
-  advance-fine : tally s (seen z) .isOpen ≡ true → refusal t (tally s (seen z) .holder) s 0 4 ≡ 0
-  advance-fine h = refusal-is t z (tally s (seen z) .holder) s 0 4 false (never-late t z s) ∙ holder-due false h
+  advance-fine : seen z .seats s .isOpen ≡ true → refusal t (seen z .seats s .holder) s 0 4 ≡ 0
+  advance-fine h = refusal-is t z (seen z .seats s .holder) s 0 4 false (never-late t z s) ∙ holder-due false h
 
-  abandon-fine : tally s (seen z) .isOpen ≡ true → tally s (seen z) .isSealed ≡ false → refusal t (tally s (seen z) .holder) s 0 3 ≡ 0
-  abandon-fine h n = refusal-is t z (tally s (seen z) .holder) s 0 3 false (λ l. late-leave t z s l ∙ n) ∙ holder-due false h
+  abandon-fine : seen z .seats s .isOpen ≡ true → seen z .seats s .isSealed ≡ false → refusal t (seen z .seats s .holder) s 0 3 ≡ 0
+  abandon-fine h n = refusal-is t z (seen z .seats s .holder) s 0 3 false (λ l. late-leave t z s l ∙ n) ∙ holder-due false h
 
   -- the two answers to an Advance of a sealed seat by its holder
   data Goes (a : Answer) : Type 0 where
     stores : (x : ℕ) → position (row (t .seats) s) < writes (row (t .seats) s) → a ≡ Stored x → Goes a
     ends : (x : ℕ) → position (row (t .seats) s) ≡ writes (row (t .seats) s) → a ≡ Done x → Goes a
 
-  sealed-open : tally s (seen z) .isSealed ≡ true → tally s (seen z) .isOpen ≡ true
+  sealed-open : seen z .seats s .isSealed ≡ true → seen z .seats s .isOpen ≡ true
   sealed-open h =
       let p = sealed-four t z s low h in
-      ap (λ (k : Tally). k .isOpen) (seat-is t z s) ∙ ap not (ne-eqb (phase g) 0 (omega arith))
+      ap (λ (x : Seen). x .isOpen) (seat-is t z s) ∙ ap not (ne-eqb (phase g) 0 (omega arith))
 
-  goes : tally s (seen z) .isSealed ≡ true → Goes (advanced t (tally s (seen z) .holder) s)
+  goes : seen z .seats s .isSealed ≡ true → Goes (advanced t (seen z .seats s .holder) s)
   unfolding storePhase storeStep doneStep
   goes h =
       let p = sealed-four t z s low h in
       let f = k .rows s low .in-use (omega arith) .head .storing p in
-      subst (λ (x : Outcome). Goes (x .answer)) (sym (fine-step t (tally s (seen z) .holder) s (advance-fine (sealed-open h)) ∙ store-step t s p))
+      subst (λ (x : Outcome). Goes (x .answer)) (sym (fine-step t (seen z .seats s .holder) s (advance-fine (sealed-open h)) ∙ store-step t s p))
       (cond-ind (λ (o : Outcome). Goes (o .answer)) (ltb (position g) (writes g))
       (λ e. stores _ (ltb-true _ _ e) refl)
       (λ e. let l = ltb-false (position g) (writes g) e in ends _ (omega arith) refl))
 
-  goes-word : {a : Answer} → Goes a → (kind a ≡ stored) ⊎ (kind a ≡ done)
-  goes-word (stores x l e) = inl (ap kind e)
-  goes-word (ends x l e) = inr (ap kind e)
+  goes-kind : {a : Answer} → Goes a → (kind a ≡ stored) ⊎ (kind a ≡ done)
+  goes-kind (stores x l e) = inl (ap kind e)
+  goes-kind (ends x l e) = inr (ap kind e)
 
-  pub progress : Progress t s (tally s (seen z))
+  pub progress : Progress t s (seen z .seats s)
   unfolding step abandon letGo
   progress =
-      let o : ℕ = tally s (seen z) .holder in
+      let o : ℕ = seen z .seats s .holder in
       record {
         never-refused = λ h.
             subst (λ (x : Outcome). kind (x .answer) ≢ refused) (sym (fine-step t o s (advance-fine h)))
-            (word-given (advance-word t s (k .rows s low .in-use (open-used h))));
-        goes-on = λ h. goes-word (goes h);
+            (kind-given (advance-kind t s (k .rows s low .in-use (open-used h))));
+        goes-on = λ h. goes-kind (goes h);
         may-leave = λ h n. rw (abandon-fine h n) refl;
       }
 
@@ -141,10 +143,10 @@ unfolding run history event
 history-more t [] c = refl
 history-more t (d ∷ cs) c = ap (λ (es : List Event). event t d ∷ es) (history-more (step t d .tables) cs c)
 
-tallied-more : (s : ℕ) (es : List Event) (e : Event) (k : Tally) → tallied s (es ++ (e ∷ [])) k ≡ noted s (e .call) (e .answer) (tallied s es k)
-unfolding tallied
-tallied-more s [] e k = refl
-tallied-more s (d ∷ es) e k = tallied-more s es e (noted s (d .call) (d .answer) k)
+observed-more : (b : Observer) (es : List Event) (e : Event) → observed b (es ++ (e ∷ [])) ≡ observe (observed b es) (e .call) (e .answer)
+unfolding observed
+observed-more b [] e = refl
+observed-more b (d ∷ es) e = observed-more (observe b (d .call) (d .answer)) es e
 
 more : {t : Tables} (z : Reached t) (c : Call) → Reached (step t c .tables)
 more z c =
@@ -157,20 +159,22 @@ more z c =
       now = run-more (begun z) (z .calls) c ∙ ap (λ (t : Tables). step t c .tables) (z .now);
     }
 
-tally-more : {t : Tables} (z : Reached t) (c : Call) (s : ℕ) → tally s (seen (more z c)) ≡ noted s c (step t c .answer) (tally s (seen z))
+seen-more : {t : Tables} (z : Reached t) (c : Call) → seen (more z c) ≡ observe (seen z) c (step t c .answer)
 unfolding more event
-tally-more z c s =
-    ap (λ (es : List Event). tally s es) (history-more (begun z) (z .calls) c)
-    ∙ tallied-more s (seen z) (event (run (begun z) (z .calls)) c) _
-    ∙ ap (λ (t : Tables). noted s c (step t c .answer) (tally s (seen z))) (z .now)
+seen-more z c =
+    ap (observed (begunWith (z .plan))) (history-more (begun z) (z .calls) c)
+    ∙ observed-more (begunWith (z .plan)) (history (begun z) (z .calls)) (event (run (begun z) (z .calls)) c)
+    ∙ ap (λ (t : Tables). observe (seen z) c (step t c .answer)) (z .now)
 
--- a refusal tells nothing new of any seat
-refusal-tells : (s : ℕ) (c : Call) (n : ℕ) (k : Tally) → noted s c (Refused n) k ≡ k
-unfolding adds
-refusal-tells s c n k = by (about s c (Refused n)) (λ e. rw e refl) (λ e. rw e refl)
+-- what an Advance shows of its seat
+shown-more : {t : Tables} (z : Reached t) (o s : ℕ) (a : Answer) → advanced t o s ≡ a → seen (more z (Advance o s)) .seats s ≡ onAdvance (seen z .seats s) a
+unfolding observe
+shown-more z o s a e =
+    ap (λ (b : Observer). b .seats s) (seen-more z (Advance o s)) ∙ changed-same s (onAdvance (seen z .seats s) _) (seen z .seats)
+    ∙ ap (onAdvance (seen z .seats s)) e
 
 -- A SEALED SEAT, whatever others do
-module _ (t : Tables) (z : Reached t) (s : ℕ) (low : s < seatCount) (h : tally s (seen z) .isSealed ≡ true) where
+module _ (t : Tables) (z : Reached t) (s : ℕ) (low : s < seatCount) (h : seen z .seats s .isSealed ≡ true) where
   four : phase (row (t .seats) s) ≡ 4
   four = sealed-four t z s low h
 
@@ -178,48 +182,46 @@ module _ (t : Tables) (z : Reached t) (s : ℕ) (low : s < seatCount) (h : tally
   too-late : (o x last : ℕ) → last < 4 → refusal t o s x last ≢ 0
   too-late o x last l e = let p = four in let a = fine t o s x last e .phase-in in omega arith
 
-  no-holder : (o : ℕ) → o ≢ tally s (seen z) .holder → refusal t o s 0 4 ≢ 0
+  no-holder : (o : ℕ) → o ≢ seen z .seats s .holder → refusal t o s 0 4 ≢ 0
   no-holder o d e = d (sym (fine t o s 0 4 e .own) ∙ sym (holder-is t z s low))
 
   -- so a call that is neither its holder's Advance nor a Setup answered ready tells nothing new of it
   abbrev Still : Call → Type 0
-  Still c = noted s c (step t c .answer) (tally s (seen z)) ≡ tally s (seen z)
+  Still c = observe (seen z) c (step t c .answer) .seats s ≡ seen z .seats s
 
   refused-still : (c : Call) (n : ℕ) → step t c ≡ keep t (Refused n) → Still c
-  refused-still c n e = rw e (refusal-tells s c n (tally s (seen z)))
+  refused-still c n e = rw e (ap (λ (b : Observer). b .seats s) (refusal-shows (seen z) c n))
 
   -- a call that names seat j
-  seat-still : (c : Call) (j n : ℕ) → ((a : Answer) → about s c a ≡ eqb j s) → (j ≡ s → step t c ≡ keep t (Refused n)) → Still c
-  seat-still c j n a f =
-      by (eqb j s)
-      (λ e. refused-still c n (f (eqb-true j s e)))
-      (λ e. rw (a (step t c .answer) ∙ e) refl)
+  seat-still : (c : Call) (j n : ℕ) → (s ≢ j → Still c) → (s ≡ j → step t c ≡ keep t (Refused n)) → Still c
+  seat-still c j n other f = by (eqb s j) (λ e. refused-still c n (f (eqb-true s j e))) (λ e. other (eqb-false s j e))
 
-  still : (c : Call) → isAdvance (tally s (seen z) .holder) s c ≡ false → kind (step t c .answer) ≢ ready → Still c
-  unfolding isAdvance step setup openSeat read write advance abandon about
+  still : (c : Call) → isAdvance (seen z .seats s .holder) s c ≡ false → begins c (step t c .answer) ≡ false → Still c
+  unfolding isAdvance step setup openSeat read write advance abandon observe isSetup
   still (Setup start plan) f d =
       let why : ℕ = setupRefusal t start plan in
-      by (eqb why 0) (λ e. absurd (d (rw e refl))) (λ e. refused-still (Setup start plan) why (unless-refused why t _ (eqb-false why 0 e)))
+      by (eqb why 0) (λ e. absurd (true≢false (rw e at d))) (λ e. refused-still (Setup start plan) why (unless-refused why t _ (eqb-false why 0 e)))
   still (Open o) f d =
       by (eqb (openRefusal t o) 0)
       (λ e. let q = free-seat t (reached-in-order t z) o (eqb-true _ 0 e) in
       let p = four in
-      let ne : freeSeat (t .seats) ≢ s = (λ y. let zero-phase : phase (row (t .seats) s) ≡ 0 = rw y at (q .1) in omega arith) in
-      rw (e, ne-eqb (freeSeat (t .seats)) s ne) refl)
+      let ne : s ≢ freeSeat (t .seats) = (λ y. let zero-phase : phase (row (t .seats) s) ≡ 0 = rw y (q .1) in omega arith) in
+      rw e (changed-other (freeSeat (t .seats)) (givenTo o) (seen z .seats) s ne))
       (λ e. refused-still (Open o) (openRefusal t o) (unless-refused (openRefusal t o) t _ (eqb-false _ 0 e)))
   still (Read o j x) f d =
-      seat-still (Read o j x) j (refusal t o j x 1) (λ a. refl)
-      (λ e. unless-refused (refusal t o j x 1) t (readIn t j x) (rw e (too-late o x 1 (omega arith))))
+      seat-still (Read o j x) j (refusal t o j x 1) (changed-other j _ (seen z .seats) s)
+      (λ e. unless-refused (refusal t o j x 1) t (readIn t j x) (rw (← e) (too-late o x 1 (omega arith))))
   still (Write o j x v) f d =
-      seat-still (Write o j x v) j (refusal t o j x 1) (λ a. refl)
-      (λ e. unless-refused (refusal t o j x 1) t (writeIn t j x v) (rw e (too-late o x 1 (omega arith))))
+      seat-still (Write o j x v) j (refusal t o j x 1) (changed-other j _ (seen z .seats) s)
+      (λ e. unless-refused (refusal t o j x 1) t (writeIn t j x v) (rw (← e) (too-late o x 1 (omega arith))))
   still (Advance o j) f d =
-      seat-still (Advance o j) j (refusal t o j 0 4) (λ a. refl)
+      seat-still (Advance o j) j (refusal t o j 0 4) (changed-other j _ (seen z .seats) s)
       (λ e. unless-refused (refusal t o j 0 4) t (advanceIn t j)
-      (rw e (no-holder o (λ q. let y : _≡_ {A = Bool} true false = rw (eq-eqb o (tally s (seen z) .holder) q, eq-eqb j s e) at f in absurd (true≢false y)))))
+      (rw (← e) (no-holder o
+      (λ q. let y : _≡_ {A = Bool} true false = rw (eq-eqb o (seen z .seats s .holder) q, eq-eqb j s (sym e)) at f in absurd (true≢false y)))))
   still (Abandon o j) f d =
-      seat-still (Abandon o j) j (refusal t o j 0 3) (λ a. refl)
-      (λ e. unless-refused (refusal t o j 0 3) t (letGo t j (Dropped j)) (rw e (too-late o 0 3 (omega arith))))
+      seat-still (Abandon o j) j (refusal t o j 0 3) (changed-other j _ (seen z .seats) s)
+      (λ e. unless-refused (refusal t o j 0 3) t (letGo t j (Dropped j)) (rw (← e) (too-late o 0 3 (omega arith))))
 
 -- the call that is its holder's Advance
 its-advance : (o s : ℕ) (c : Call) → isAdvance o s c ≡ true → c ≡ Advance o s
@@ -231,38 +233,38 @@ its-advance o s (Write p j x v) e = absurd (true≢false (sym e))
 its-advance o s (Advance p j) e = let q = both (eqb p o) (eqb j s) e in rw (eqb-true p o (q .0), eqb-true j s (q .1)) refl
 its-advance o s (Abandon p j) e = absurd (true≢false (sym e))
 
--- EXACTLY THE STORES THAT ARE LEFT, AND ONE MORE. The seat k is sealed by o, with n stores to go
-record Left (k : Tally) (o n : ℕ) : Type 0 where
-  is-sealed : k .isSealed ≡ true
-  by-holder : k .holder ≡ o
-  to-go : made k + n + 1 ≡ 2 * w k + r k + 3
+-- EXACTLY THE STORES THAT ARE LEFT, AND ONE MORE. The seat is sealed by o, with n stores to go
+record StoresToGo (x : Seen) (o n : ℕ) : Type 0 where
+  is-sealed : x .isSealed ≡ true
+  by-holder : x .holder ≡ o
+  to-go : advanceCount x + n + 1 ≡ 2 * writeCount x + readCount x + 3
 
-abbrev Ends : ℕ → List ℕ → Type 0
-Ends n words = take (suc n) words ≡ take (length words) (ending n)
+abbrev EndsIn : ℕ → List ℕ → Type 0
+EndsIn n words = take (suc n) words ≡ take (length words) (ending n)
 
 -- its holder's Advance, and what comes after it
-advance-run : (t : Tables) (z : Reached t) (o s n : ℕ) → s < seatCount → Left (tally s (seen z)) o n → (rest : List ℕ) →
-    ((m : ℕ) → Left (tally s (seen (more z (Advance o s)))) o m → Ends m rest) → Ends n (kind (advanced t o s) ∷ rest)
-unfolding adds about
+advance-run : (t : Tables) (z : Reached t) (o s n : ℕ) → s < seatCount → StoresToGo (seen z .seats s) o n → (rest : List ℕ) →
+    ((m : ℕ) → StoresToGo (seen (more z (Advance o s)) .seats s) o m → EndsIn m rest) → EndsIn n (kind (advanced t o s) ∷ rest)
+unfolding onAdvance observe
 advance-run t z o s n low k rest next = go n (goes t z s low (k .is-sealed)) counted
   where
     counted : writes (row (t .seats) s) ≡ position (row (t .seats) s) + n
     counted =
-        let a = passes-four (row (t .seats) s) (sealed-four t z s low (k .is-sealed)) in
-        let m = made-is t z s low in
-        let x = writes-are t z s low in
-        let y = reads-are t z s low in
+        let a = steps-four (row (t .seats) s) (sealed-four t z s low (k .is-sealed)) in
+        let m = advances-are t z s low in
+        let x = writes-are t z s in
+        let y = reads-are t z s in
         let q = k .to-go in
         omega arith
 
-    told : (a : Answer) → advanced t (tally s (seen z) .holder) s ≡ a → advanced t o s ≡ a
+    told : (a : Answer) → advanced t (seen z .seats s .holder) s ≡ a → advanced t o s ≡ a
     told a e = ap (λ (p : ℕ). advanced t p s) (sym (k .by-holder)) ∙ e
 
-    after : (x : ℕ) → advanced t o s ≡ Stored x → tally s (seen (more z (Advance o s))) ≡ adds 0 (Stored x) (tally s (seen z))
-    after x e = tally-more z (Advance o s) s ∙ rw (e, eq-eqb s s refl) refl
+    after : (x : ℕ) → advanced t o s ≡ Stored x → seen (more z (Advance o s)) .seats s ≡ onAdvance (seen z .seats s) (Stored x)
+    after x e = shown-more z o s (Stored x) e
 
-    go : (n : ℕ) → Goes t z s low (advanced t (tally s (seen z) .holder) s) → writes (row (t .seats) s) ≡ position (row (t .seats) s) + n →
-        Ends n (kind (advanced t o s) ∷ rest)
+    go : (n : ℕ) → Goes t z s low (advanced t (seen z .seats s .holder) s) → writes (row (t .seats) s) ≡ position (row (t .seats) s) + n →
+        EndsIn n (kind (advanced t o s) ∷ rest)
     go zero (stores x l e) c = absurd (omega arith)
     go (suc m) (ends x l e) c = absurd (omega arith)
     go zero (ends x l e) c = rw (told _ e) (ap (λ (l : List ℕ). done ∷ l) (sym (take-nil (length rest))))
@@ -270,26 +272,27 @@ advance-run t z o s n low k rest next = go n (goes t z s low (k .is-sealed)) cou
         let a = told _ e in
         rw a (ap (λ (l : List ℕ). stored ∷ l) (next m (rw (after x a) (one-less m c))))
       where
-        one-less : (m : ℕ) → writes (row (t .seats) s) ≡ position (row (t .seats) s) + suc m → Left (adds 0 (Stored x) (tally s (seen z))) o m
+        one-less : (m : ℕ) → writes (row (t .seats) s) ≡ position (row (t .seats) s) + suc m → StoresToGo (onAdvance (seen z .seats s) (Stored x)) o m
         one-less m c =
             let n-is : n ≡ suc m = (let d = counted in omega arith) in
             let q = k .to-go in
-            let one = length-append (tally s (seen z) .words) (stored ∷ []) in
+            let one = length-append (seen z .seats s .advances) (stored ∷ []) in
             record { is-sealed = k .is-sealed; by-holder = k .by-holder; to-go = omega arith }
 
-sealed-run : (t : Tables) (z : Reached t) (o s n : ℕ) → s < seatCount → Left (tally s (seen z)) o n → (cs : List Call) →
-    noneReady (history t cs) ≡ true → Ends n (advancesOf o s (history t cs))
-unfolding history advancesOf noneReady
+sealed-run : (t : Tables) (z : Reached t) (o s n : ℕ) → s < seatCount → StoresToGo (seen z .seats s) o n → (cs : List Call) →
+    NoSetup (history t cs) → EndsIn n (advancesOf o s (history t cs))
+unfolding history advancesOf
 sealed-run t z o s n low k [] q = refl
 sealed-run t z o s n low k (c ∷ cs) q =
-    let none = both (not (eqb (kind (step t c .answer)) ready)) _ q in
+    let none = q (event t c) (unfold event in here refl) in
+    let rest : NoSetup (history (step t c .tables) cs) = λ e i. q e (there i) in
     by (isAdvance o s c)
     (λ e. rw (e, its-advance o s c e)
     (advance-run t z o s n low k _
-    (λ m l. sealed-run (step t (Advance o s) .tables) (more z (Advance o s)) o s m low l cs (rw (its-advance o s c e) at (none .1)))))
-    (λ e. let same : tally s (seen (more z c)) ≡ tally s (seen z) =
-    tally-more z c s ∙ still t z s low (k .is-sealed) c (rw (k .by-holder) e) (eqb-false _ _ (not-true _ (none .0))) in
-    rw e (sealed-run (step t c .tables) (more z c) o s n low (rw same k) cs (none .1)))
+    (λ m l. sealed-run (step t (Advance o s) .tables) (more z (Advance o s)) o s m low l cs (rw (its-advance o s c e) at rest))))
+    (λ e. let same : seen (more z c) .seats s ≡ seen z .seats s =
+    ap (λ (b : Observer). b .seats s) (seen-more z c) ∙ still t z s low (k .is-sealed) c (rw (k .by-holder) e) (unfold event in none) in
+    rw e (sealed-run (step t c .tables) (more z c) o s n low (rw same k) cs rest))
 
 -- the answer that says Sealed
 sealed-is : (a : Answer) → kind a ≡ sealed → a ≡ Sealed (number a)
@@ -312,16 +315,15 @@ ending-length n = let a = length-append (replicate n stored) (done ∷ []) in le
 
 -- ONCE SEALED, EXACTLY w + 1 MORE ADVANCES END IT
 pub ends-exactly : (t : Tables) → EndsExactly t
-unfolding adds about
+unfolding onAdvance observe
 ends-exactly t z o s e cs q =
     let f = not-refused t o s (λ y. omega arith) in
     let low = f .seat-in in
-    let k : Tally = tally s (seen z) in
+    let x : Seen = seen z .seats s in
     let a : advanced t o s ≡ Sealed (number (advanced t o s)) = sealed-is (advanced t o s) e in
-    let now : tally s (seen (more z (Advance o s))) ≡ adds 0 (Sealed (number (advanced t o s))) k =
-    tally-more z (Advance o s) s ∙ rw (a, eq-eqb s s refl) refl in
-    let n = word-sealing (says t z s low o (λ y. omega arith)) e in
-    let one = length-append (k .words) (sealed ∷ []) in
-    let l : Left (tally s (seen (more z (Advance o s)))) o (w k) =
+    let now = shown-more z o s (Sealed (number (advanced t o s))) a in
+    let n = kind-sealing (says t z s low o (λ y. omega arith)) e in
+    let one = length-append (x .advances) (sealed ∷ []) in
+    let l : StoresToGo (seen (more z (Advance o s)) .seats s) o (writeCount x) =
     rw now (record { is-sealed = refl; by-holder = holder-is t z s low ∙ f .own; to-go = omega arith }) in
-    rw (ending-length (w k)) (sealed-run (step t (Advance o s) .tables) (more z (Advance o s)) o s (w k) low l cs q)
+    rw (ending-length (writeCount x)) (sealed-run (step t (Advance o s) .tables) (more z (Advance o s)) o s (writeCount x) low l cs q)

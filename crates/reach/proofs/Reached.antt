@@ -10,9 +10,9 @@ use Rattle.rules.specs.Tables.{Tables, Outcome}
 use Rattle.rules.specs.Answers.{ready, refused, kind, number}
 use Rattle.rules.specs.Calls.{Call, Setup, step, run}
 use Rattle.rules.specs.declared.Answer.the-variants.{Ready}
-use Rattle.reach.specs.Reached.{Reached, Never3}
-use Rattle.reach.proofs.Order.{Zero, InOrder}
-use Rattle.reach.proofs.Effects.{Effect, refuses, changes, begins, effect, setup-effect, after-effect, as-many, in-order-run}
+use Rattle.reach.specs.Reached.{Reached, records, Never3}
+use Rattle.reach.proofs.InOrder.{Zero, InOrder}
+use Rattle.reach.proofs.Effects.{Effect, refuses, changes, starts, effect-of, setup-effect, after-effect, as-many, in-order-run}
 
 -- what answers ready has begun anew
 record Begun (c : Call) (o : Outcome) : Type 0 where
@@ -26,8 +26,8 @@ record Begun (c : Call) (o : Outcome) : Type 0 where
 
 begun-anew : {t : Tables} {c : Call} (o : Outcome) → Effect t c o → kind (o .answer) ≡ ready → Begun c o
 begun-anew o (refuses n d e) r = absurd (let q : kind (o .answer) ≡ refused = ap (λ (z : Outcome). kind (z .answer)) e in omega arith)
-begun-anew o (changes s low a h ch b told) r = absurd (told .plain r)
-begun-anew o (begins start plan q e m a b z p) r = record { start = start; plan = plan; is = q; in-order = b; zeros = z; laid = p; told = e ∙ ap Ready (sym m) }
+begun-anew o (changes s low f a h ch b told) r = absurd (told .plain r)
+begun-anew o (starts start plan q e m b z p) r = record { start = start; plan = plan; is = q; in-order = b; zeros = z; laid = p; told = e ∙ ap Ready (sym m) }
 
 module _ (t : Tables) (start : ℕ) (plan : List ℕ) (answered : kind (step t (Setup start plan) .answer) ≡ ready) where
   pub begun-in-order : InOrder (step t (Setup start plan) .tables)
@@ -49,9 +49,9 @@ module _ (t : Tables) (start : ℕ) (plan : List ℕ) (answered : kind (step t (
 words-run : (t : Tables) → InOrder t → (cs : List Call) → length (run t cs .words) ≡ length (t .words)
 unfolding run
 words-run t k [] = refl
-words-run t k (c ∷ cs) = let f = effect t k c in words-run (step t c .tables) (after-effect t c (step t c) k f) cs ∙ as-many t c (step t c) f
+words-run t k (c ∷ cs) = let f = effect-of t k c in words-run (step t c .tables) (after-effect t c (step t c) k f) cs ∙ as-many t c (step t c) f
 
-pub records-told : (t : Tables) (z : Reached t) → length (t .words) ≡ number (step (z .opening) (Setup (z .start) (z .plan)) .answer)
+pub records-told : (t : Tables) (z : Reached t) → length (t .words) ≡ records z
 unfolding step
 records-told t z =
     ap (λ (t : Tables). length (t .words)) (sym (z .now))
@@ -63,9 +63,9 @@ reached-in-order t z = rw (z .now) at (in-order-run _ (begun-in-order (z .openin
 
 fair : {t : Tables} {c : Call} (o : Outcome) → Effect t c o → kind (o .answer) ≡ refused → number (o .answer) ≢ 3
 fair o (refuses n d e) r = λ q. d (sym (ap (λ (z : Outcome). number (z .answer)) e) ∙ q)
-fair o (changes s low a h ch b told) r = told .fair r
-fair o (begins start plan q e m a b z p) r = absurd (let v : kind (o .answer) ≡ ready = ap kind e in omega arith)
+fair o (changes s low f a h ch b told) r = told .fair r
+fair o (starts start plan q e m b z p) r = absurd (let v : kind (o .answer) ≡ ready = ap kind e in omega arith)
 
 -- REFUSAL 3 IS NEVER GIVEN
 pub never-3 : (t : Tables) → Reached t → Never3 t
-never-3 t z c r = fair _ (effect t (reached-in-order t z) c) r
+never-3 t z c r = fair _ (effect-of t (reached-in-order t z) c) r

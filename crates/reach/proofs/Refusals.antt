@@ -22,22 +22,23 @@ use Rattle.rules.specs.declared.Answer.{Answer}
 use Rattle.rules.specs.declared.Answer.the-variants.{Refused, Dropped}
 use Rattle.rows.specs.Search.{none-any}
 use Rattle.rows.specs.Fine.{fine}
-use Rattle.reach.specs.Reached.{Reached, seen}
-use Rattle.reach.specs.Tally.{Tally, tally, knows, made, isOf}
-use Rattle.reach.specs.Refusals.{known, orElse, has, claimed, isHeld, seatDue, readDue, writeDue, openDue, due, EveryRefusal}
-use Rattle.reach.proofs.Tests.{by, chosen, same-test, some-any}
+use Rattle.observer.specs.Observer.{Seen}
+use Rattle.observer.proofs.Shows.{sees-write, sees-known}
+use Rattle.reach.specs.Reached.{Reached, records, seen}
+use Rattle.reach.specs.Counts.{advanceCount, isOf, seatsOf}
+use Rattle.reach.specs.Refusals.{orElse, claimed, isHeld, seatDue, readDue, writeDue, openDue, due, EveryRefusal}
+use Rattle.reach.proofs.Tests.{by, same-test, some-any}
 use Rattle.reach.proofs.Count.{one, sum-same, count-has, count-some}
-use Rattle.reach.proofs.Order.{locks, passes, InOrder}
-use Rattle.reach.proofs.Listed.{written-is, known-written, known-read, unknown}
-use Rattle.reach.proofs.Script.{word-given}
-use Rattle.reach.proofs.Rows.{undamaged, passes-early, passes-three, passes-four}
-use Rattle.reach.proofs.Steps.{tallyOf}
+use Rattle.reach.proofs.InOrder.{locks, stepsTaken, InOrder}
+use Rattle.reach.proofs.Script.{kind-given}
+use Rattle.reach.proofs.Rows.{undamaged, steps-early, steps-three, steps-four}
+use Rattle.reach.proofs.Steps.{seenOf, row-shows}
 use Rattle.reach.proofs.Opens.{not-unsized, open-refusal, open-no-owner}
 use Rattle.reach.proofs.Effects.{seat-in, used-of}
 use Rattle.reach.proofs.Reached.{records-told, reached-in-order}
-use Rattle.reach.proofs.Tally.{tally-row, writes-are, reads-are}
-use Rattle.reach.proofs.FairShare.{plan-kept, held-seen}
-use Rattle.reach.proofs.Life.{advance-word, made-is, made-past}
+use Rattle.reach.proofs.Observed.{seat-is, plan-stays, writes-are, reads-are}
+use Rattle.reach.proofs.FairShare.{held-seen}
+use Rattle.reach.proofs.Life.{advance-kind, advances-are, advanced-past}
 
 -- an answer is a refusal exactly where n is not 0, and then carries n
 pub record Exactly (a : Answer) (n : ℕ) : Type 0 where
@@ -79,7 +80,7 @@ any-count p n false e =
     none-any p n (λ i l. by (p i) (λ y. absurd (let a : one (p i) ≡ 1 = ap one y in let m = count-has p i n l in omega arith)) (λ y. y))
 
 -- the rules' test for 4, of a row and of what is told of it
-foreign-is : (g : List ℕ) (o : ℕ) → foreign g o ≡ not (isOf o (tallyOf g))
+foreign-is : (g : List ℕ) (o : ℕ) → foreign g o ≡ not (isOf o (seenOf g))
 unfolding foreign oneOf
 foreign-is g o = either (eqb (phase g) 0) (eqb (owner g) o)
   where
@@ -91,19 +92,16 @@ module _ (t : Tables) (z : Reached t) where
   k : InOrder t
   k = reached-in-order t z
 
-  pub seat-is : (s : ℕ) → tally s (seen z) ≡ tallyOf (row (t .seats) s)
-  seat-is s = sym (tally-row t z s)
-
   -- A CALL THAT NAMES A SEAT
   pub refusal-is : (o s x last : ℕ) (late : Bool) → (s < seatCount → ltb last (phase (row (t .seats) s)) ≡ late) →
-      refusal t o s x last ≡ seatDue (known z) o s x late
+      refusal t o s x last ≡ seatDue (records z) (seen z) o s x late
   unfolding refusal firstOf seatDue
   refusal-is o s x last late h =
       rw (not-unsized t k, ← records-told t z)
       (by (misnamed (length (t .words)) o s x) (λ e. rw e refl)
       (λ e. let low = seat-in _ o s x e in
       let sound = undamaged (row (t .seats) s) (length (t .words)) (k .rows s low) in
-      rw (e, sound, foreign-is (row (t .seats) s) o, h low, seat-is s) refl))
+      rw (e, sound, foreign-is (row (t .seats) s) o, h low, seat-is t z s) refl))
 
   -- too late for Read and Write, for Abandon, for Advance
   module _ (s : ℕ) (low : s < seatCount) where
@@ -113,103 +111,101 @@ module _ (t : Tables) (z : Reached t) where
     phase-in : phase (row (t .seats) s) ≤ 4
     phase-in = by (eqb (phase g) 0) (λ e. let q = eqb-true (phase g) 0 e in omega arith) (λ e. k .rows s low .in-use (eqb-false _ _ e) .head .phase-in)
 
-    passes-past : 1 < phase (row (t .seats) s) → 1 ≤ passes (row (t .seats) s)
-    passes-past h =
+    steps-past : 1 < phase (row (t .seats) s) → 1 ≤ stepsTaken (row (t .seats) s)
+    steps-past h =
         let p = phase-in in
         let hd = k .rows s low .in-use (omega arith) .head in
         by (eqb (phase g) 2)
-        (λ e. let q = eqb-true (phase g) 2 e in let a = passes-early g (omega arith) in let f = hd .locking q in omega arith)
+        (λ e. let q = eqb-true (phase g) 2 e in let a = steps-early g (omega arith) in let f = hd .locking q in omega arith)
         (λ e. let d : phase g ≢ 2 = eqb-false _ _ e in by (eqb (phase g) 3)
-        (λ y. let q = eqb-true (phase g) 3 y in let a = passes-three g q in omega arith)
-        (λ y. let n : phase g ≢ 3 = eqb-false _ _ y in let a = passes-four g (omega arith) in omega arith))
+        (λ y. let q = eqb-true (phase g) 3 y in let a = steps-three g q in omega arith)
+        (λ y. let n : phase g ≢ 3 = eqb-false _ _ y in let a = steps-four g (omega arith) in omega arith))
 
-    late-work : ltb 1 (phase (row (t .seats) s)) ≡ leb 1 (made (tally s (seen z)))
+    late-work : ltb 1 (phase (row (t .seats) s)) ≡ leb 1 (advanceCount (seen z .seats s))
     late-work =
         same-test _ _
-        (λ e. let a = passes-past (ltb-true 1 (phase g) e) in let m = made-is t z s low in le-leb 1 (made (tally s (seen z))) (omega arith))
-        (λ e. lt-ltb 1 (phase g) (made-past t z s low (leb-true 1 (made (tally s (seen z))) e)))
+        (λ e. let a = steps-past (ltb-true 1 (phase g) e) in let m = advances-are t z s low in le-leb 1 (advanceCount (seen z .seats s)) (omega arith))
+        (λ e. lt-ltb 1 (phase g) (advanced-past t z s low (leb-true 1 (advanceCount (seen z .seats s)) e)))
 
-    pub late-leave : ltb 3 (phase (row (t .seats) s)) ≡ tally s (seen z) .isSealed
+    pub late-leave : ltb 3 (phase (row (t .seats) s)) ≡ seen z .seats s .isSealed
     late-leave =
         let p = phase-in in
         same-test _ (eqb (phase g) 4)
         (λ e. let a = ltb-true 3 (phase g) e in eq-eqb (phase g) 4 (omega arith))
         (λ e. let a = eqb-true (phase g) 4 e in lt-ltb 3 (phase g) (omega arith))
-        ∙ ap (λ (k : Tally). k .isSealed) (sym (seat-is s))
+        ∙ ap (λ (x : Seen). x .isSealed) (sym (seat-is t z s))
 
     pub never-late : ltb 4 (phase (row (t .seats) s)) ≡ false
     never-late = le-ltb 4 (phase g) phase-in
 
   -- READ AND WRITE, once the seat is in order
-  held-is : (x : ℕ) → x < length (t .words) → isHeld (known z) x ≡ isLocked (getD (t .words) x 0)
+  held-is : (x : ℕ) → x < length (t .words) → isHeld (records z) (seen z) x ≡ isLocked (getD (t .words) x 0)
   held-is x l =
-      ap (λ (p : ℕ → Bool). any p seatCount) (λ i j. seat-is j i .locked x)
+      ap (λ (p : ℕ → Bool). any p seatCount) (λ i j. seat-is t z j i .locked x)
       ∙ any-count (λ j. locks (row (t .seats) j) x) seatCount _ (k .held-once x l)
 
-  read-exact : (s x : ℕ) → s < seatCount → x < length (t .words) → Exactly (readIn t s x .answer) (readDue (known z) s x)
+  read-exact : (s x : ℕ) → x < length (t .words) → Exactly (readIn t s x .answer) (readDue (records z) (seen z) s x)
   unfolding readIn firstRead readDue
-  read-exact s x low inside =
+  read-exact s x inside =
       let g : List ℕ = row (t .seats) s in
-      rw (held-is x inside, ← reads-are t z s low, seat-is s)
-      (by (ltb (writeOf g x) (writes g))
-      (λ e. rw e (of-due (sym (chosen (knows (tallyOf g) x) _ _ (known-written g x e))) (given _ (λ q. omega arith))))
-      (λ e0. rw e0 (by (ltb (readOf g x) (reads g))
-      (λ e. rw e (of-due (sym (chosen (knows (tallyOf g) x) _ _ (known-read g x e))) (given _ (λ q. omega arith))))
-      (λ e1. rw (e1, unknown g x e0 e1) (by (leb mostReads (reads g)) (λ e. rw e (refusing 8 (omega arith)))
+      rw (held-is x inside, ← reads-are t z s, seat-is t z s, sees-known g (seenOf g) (row-shows g) x)
+      (by (ltb (writeOf g x) (writes g)) (λ e. rw e (given _ (λ q. omega arith)))
+      (λ e0. rw e0 (by (ltb (readOf g x) (reads g)) (λ e. rw e (given _ (λ q. omega arith)))
+      (λ e1. rw e1 (by (leb mostReads (reads g)) (λ e. rw e (refusing 8 (omega arith)))
       (λ e2. rw e2 (by (isLocked (getD (t .words) x 0)) (λ e. rw e (refusing 10 (omega arith))) (λ e. rw e (given _ (λ q. omega arith))))))))))
 
-  write-exact : (s x v : ℕ) → s < seatCount → Exactly (writeIn t s x v .answer) (writeDue (known z) s x)
+  write-exact : (s x v : ℕ) → Exactly (writeIn t s x v .answer) (writeDue (records z) (seen z) s x)
   unfolding writeIn writeDue
-  write-exact s x v low =
+  write-exact s x v =
       let g : List ℕ = row (t .seats) s in
-      rw (← writes-are t z s low, seat-is s)
-      (by (ltb (writeOf g x) (writes g)) (λ e. rw (e, sym (written-is g x) ∙ e) (given _ (λ q. omega arith)))
-      (λ e. rw (e, sym (written-is g x) ∙ e) (by (leb mostWrites (writes g)) (λ q. rw q (refusing 9 (omega arith))) (λ q. rw q (given _ (λ y. omega arith))))))
+      rw (← writes-are t z s, seat-is t z s, sees-write g (seenOf g) (row-shows g) x)
+      (by (ltb (writeOf g x) (writes g)) (λ e. rw e (given _ (λ q. omega arith)))
+      (λ e. rw e (by (leb mostWrites (writes g)) (λ q. rw q (refusing 9 (omega arith))) (λ q. rw q (given _ (λ y. omega arith))))))
 
   -- OPEN
-  claims-are : claims (t .seats) ≡ claimed (known z)
+  claims-are : claims (t .seats) ≡ claimed (records z) (seen z)
   unfolding claims claim
   claims-are =
-      sum-same (λ o. max (has (known z) o) (share (known z .plan) o)) (claim (t .seats)) owners
-      (λ o l. let a = held-seen t z o in let b : share (t .seats) o ≡ share (known z .plan) o = plan-kept t z (shareAt o) (omega arith) in omega arith)
+      sum-same (λ o. max (seatsOf o (seen z)) (share (seen z .plan) o)) (claim (t .seats)) owners
+      (λ o l. let a = held-seen t z o in let b : share (t .seats) o ≡ share (seen z .plan) o = plan-stays t z (shareAt o) (omega arith) in omega arith)
 
-  open-is : (o : ℕ) → openRefusal t o ≡ openDue (known z) o
+  open-is : (o : ℕ) → openRefusal t o ≡ openDue (records z) (seen z) o
   unfolding openDue crowded
   open-is o =
       by (leb owners o)
       (λ e. open-no-owner t k o (leb-true owners o e) ∙ rw e refl)
       (λ e. let low = leb-false owners o e in
-      rw (open-refusal t k o low, e, held-seen t z o, claims-are, plan-kept t z (shareAt o) (omega arith), plan-kept t z (limitAt o) (omega arith)) refl)
+      rw (open-refusal t k o low, e, held-seen t z o, claims-are, plan-stays t z (shareAt o) (omega arith), plan-stays t z (limitAt o) (omega arith)) refl)
 
   -- SETUP, over tables whose lengths a Setup has accepted
-  setup-is : (start : ℕ) (plan : List ℕ) → setupRefusal t start plan ≡ due (known z) (Setup start plan)
+  setup-is : (start : ℕ) (plan : List ℕ) → setupRefusal t start plan ≡ due (records z) (seen z) (Setup start plan)
   unfolding setupRefusal due
   setup-is start plan = rw (not-unsized t k) refl
 
   -- ADVANCE AND ABANDON
-  advance-is : (o s : ℕ) → refusal t o s 0 4 ≡ due (known z) (Advance o s)
+  advance-is : (o s : ℕ) → refusal t o s 0 4 ≡ due (records z) (seen z) (Advance o s)
   unfolding due
   advance-is o s = refusal-is o s 0 4 _ (never-late s)
 
-  abandon-is : (o s : ℕ) → refusal t o s 0 3 ≡ due (known z) (Abandon o s)
+  abandon-is : (o s : ℕ) → refusal t o s 0 3 ≡ due (records z) (seen z) (Abandon o s)
   unfolding due
   abandon-is o s = refusal-is o s 0 3 _ (late-leave s)
 
   -- ANY CALL
-  pub exact : (c : Call) → Exactly (step t c .answer) (due (known z) c)
+  pub exact : (c : Call) → Exactly (step t c .answer) (due (records z) (seen z) c)
   unfolding step due setup openSeat read write advance abandon letGo
   exact (Setup start plan) = of-due (setup-is start plan) (guarded-only (setupRefusal t start plan) t _ (λ e q. omega arith))
   exact (Open o) = of-due (open-is o) (guarded-only (openRefusal t o) t _ (λ e q. omega arith))
   exact (Read o s x) =
-      of-due (ap (λ (n : ℕ). orElse n (readDue (known z) s x)) (refusal-is o s x 1 _ (late-work s)))
-      (guarded (refusal t o s x 1) _ t (readIn t s x) (λ e. let f = fine t o s x 1 e in read-exact s x (f .seat-in) (f .item-in)))
+      of-due (ap (λ (n : ℕ). orElse n (readDue (records z) (seen z) s x)) (refusal-is o s x 1 _ (late-work s)))
+      (guarded (refusal t o s x 1) _ t (readIn t s x) (λ e. read-exact s x (fine t o s x 1 e .item-in)))
   exact (Write o s x v) =
-      of-due (ap (λ (n : ℕ). orElse n (writeDue (known z) s x)) (refusal-is o s x 1 _ (late-work s)))
-      (guarded (refusal t o s x 1) _ t (writeIn t s x v) (λ e. write-exact s x v (fine t o s x 1 e .seat-in)))
+      of-due (ap (λ (n : ℕ). orElse n (writeDue (records z) (seen z) s x)) (refusal-is o s x 1 _ (late-work s)))
+      (guarded (refusal t o s x 1) _ t (writeIn t s x v) (λ e. write-exact s x v))
   exact (Advance o s) =
       of-due (advance-is o s)
       (guarded-only (refusal t o s 0 4) t (advanceIn t s)
-      (λ e. word-given (advance-word t s (used-of t k o s 0 4 (fine t o s 0 4 e)))))
+      (λ e. kind-given (advance-kind t s (used-of t k o s 0 4 (fine t o s 0 4 e)))))
   exact (Abandon o s) =
       of-due (abandon-is o s)
       (guarded-only (refusal t o s 0 3) t (letGo t s (Dropped s)) (λ e q. omega arith))

@@ -7,61 +7,53 @@ use mathlib.Core.List.{List}
 use native.Mathlib.Omega.{arith}
 use borrow.Author.Tests.{le-leb, lt-leb, leb-true, eqb-true, eqb-false, eq-eqb, ne-eqb, le-ltb}
 use lib.Dec.{leb, ltb, eqb}
-use lib.ListN.{getD}
 use Rattle.clock.specs.Word.{top}
-use Rattle.rules.specs.Layout.{owners, mostReads, mostWrites, phaseAt, ownerAt, readsAt, writesAt, timeAt, readItemAt, keptWriteAt, keptReadAt, writeItemAt, phase, owner, position, reads, writes, time, readItem, keptWrite, writeItem}
+use Rattle.rules.specs.Layout.{owners, mostReads, mostWrites, phaseAt, ownerAt, readItemAt, keptWriteAt, keptReadAt, writeItemAt, phase}
+use Rattle.rules.specs.Layout.{owner, position, reads, writes, time, readItem, keptWrite, writeItem}
 use Rattle.rules.specs.Refusals.{misplaced, late, badRead, badWrite, damaged}
 use Rattle.rules.specs.Advance.{heldLocks}
 use Rattle.rows.specs.Search.{none-any}
 use Rattle.rows.specs.Changed.{Nudged}
+use Rattle.observer.proofs.Entries.{nudged-at, nudged-reads, nudged-writes}
 use Rattle.reach.specs.Invariants.{lockFrom, lockTo}
 use Rattle.reach.proofs.Tests.{by, only-where, all-none}
-use Rattle.reach.proofs.Order.{Zero, Head, Entries, Used, Row, passes}
+use Rattle.reach.proofs.InOrder.{Zero, Head, Entries, Used, Row, stepsTaken}
 
 -- A NUDGED ROW keeps its entries
 module _ {g h : List ℕ} {ph p t : ℕ} (z : Nudged g h ph p t) where
-  pub nudged-at : (f : ℕ) → timeAt < f → getD h f 0 ≡ getD g f 0
-  nudged-at f l = z .rest f (omega arith) (omega arith) (omega arith)
-
   pub nudged-owner : owner h ≡ owner g
   nudged-owner = z .rest ownerAt (omega arith) (omega arith) (omega arith)
 
-  pub nudged-reads : reads h ≡ reads g
-  nudged-reads = z .rest readsAt (omega arith) (omega arith) (omega arith)
-
-  pub nudged-writes : writes h ≡ writes g
-  nudged-writes = z .rest writesAt (omega arith) (omega arith) (omega arith)
-
   -- its head, number by number
   pub nudged-head : (phase h ≡ ph) × (owner h ≡ owner g) × (position h ≡ p) × (reads h ≡ reads g) × (writes h ≡ writes g) × (time h ≡ t)
-  nudged-head = (z .is-phase, nudged-owner, z .is-position, nudged-reads, nudged-writes, z .is-time)
+  nudged-head = (z .is-phase, nudged-owner, z .is-position, nudged-reads z, nudged-writes z, z .is-time)
 
   pub entries-nudged : {n : ℕ} → Entries n g → Entries n h
   entries-nudged k =
-      let r = nudged-reads in
-      let w = nudged-writes in
+      let r = nudged-reads z in
+      let w = nudged-writes z in
       record {
         reads-in = let a = k .reads-in in omega arith;
         writes-in = let a = k .writes-in in omega arith;
-        read-in = λ i l. rw (nudged-at (readItemAt i) (omega arith)) (k .read-in i (omega arith));
-        write-in = λ i l. rw (nudged-at (writeItemAt i) (omega arith)) (k .write-in i (omega arith));
-        distinct = λ i j a l. rw (nudged-at (readItemAt i) (omega arith), nudged-at (readItemAt j) (omega arith)) (k .distinct i j a (omega arith));
-        ascending = λ i j a l. rw (nudged-at (writeItemAt i) (omega arith), nudged-at (writeItemAt j) (omega arith)) (k .ascending i j a (omega arith));
-        ordered = λ i l. rw (nudged-at (keptWriteAt i) (omega arith), nudged-at (keptReadAt i) (omega arith)) (k .ordered i (omega arith));
-        kept-timely = λ i l. rw (nudged-at (keptReadAt i) (omega arith)) (k .kept-timely i (omega arith));
-        no-read = λ f a l. nudged-at f (omega arith) ∙ k .no-read f (omega arith) l;
-        no-write = λ f a l. nudged-at f (omega arith) ∙ k .no-write f (omega arith) l;
+        read-in = λ i l. rw (nudged-at z (readItemAt i) (omega arith)) (k .read-in i (omega arith));
+        write-in = λ i l. rw (nudged-at z (writeItemAt i) (omega arith)) (k .write-in i (omega arith));
+        distinct = λ i j a l. rw (nudged-at z (readItemAt i) (omega arith), nudged-at z (readItemAt j) (omega arith)) (k .distinct i j a (omega arith));
+        ascending = λ i j a l. rw (nudged-at z (writeItemAt i) (omega arith), nudged-at z (writeItemAt j) (omega arith)) (k .ascending i j a (omega arith));
+        ordered = λ i l. rw (nudged-at z (keptWriteAt i) (omega arith), nudged-at z (keptReadAt i) (omega arith)) (k .ordered i (omega arith));
+        kept-timely = λ i l. rw (nudged-at z (keptReadAt i) (omega arith)) (k .kept-timely i (omega arith));
+        no-read = λ f a l. nudged-at z f (omega arith) ∙ k .no-read f (omega arith) l;
+        no-write = λ f a l. nudged-at z f (omega arith) ∙ k .no-write f (omega arith) l;
       }
 
   pub used-nudged : {n : ℕ} → Used n g → Head h → (3 ≤ ph → (i : ℕ) → i < reads g → keptWrite g i ≤ t) → Used n h
   used-nudged u hd k =
-      let r = nudged-reads in
+      let r = nudged-reads z in
       let e = z .is-phase in
       let q = z .is-time in
       record {
         head = hd;
         entries = entries-nudged (u .entries);
-        not-below = λ a i l. let b = k (omega arith) i (omega arith) in let y = nudged-at (keptWriteAt i) (omega arith) in omega arith;
+        not-below = λ a i l. let b = k (omega arith) i (omega arith) in let y = nudged-at z (keptWriteAt i) (omega arith) in omega arith;
       }
 
 pub row-used : {n : ℕ} {g : List ℕ} → Used n g → Row n g
@@ -158,17 +150,17 @@ module _ (g : List ℕ) where
       (λ e. let q = eqb-true (phase g) 3 e in rw e (to-late (omega arith)))
       (λ e. let q : phase g ≢ 3 = eqb-false _ _ e in rw e (to-early (omega arith)))
 
-  pub passes-early : phase g ≤ 2 → passes g ≡ position g
-  unfolding passes
-  passes-early h = rw (le-leb (phase g) 2 h)
+  pub steps-early : phase g ≤ 2 → stepsTaken g ≡ position g
+  unfolding stepsTaken
+  steps-early h = rw (le-leb (phase g) 2 h)
 
-  pub passes-three : phase g ≡ 3 → passes g ≡ writes g + 1 + position g
-  unfolding passes
-  passes-three h = rw (lt-leb (phase g) 2 (omega arith), eq-eqb _ _ h)
+  pub steps-three : phase g ≡ 3 → stepsTaken g ≡ writes g + 1 + position g
+  unfolding stepsTaken
+  steps-three h = rw (lt-leb (phase g) 2 (omega arith), eq-eqb _ _ h)
 
-  pub passes-four : phase g ≡ 4 → passes g ≡ writes g + reads g + 2 + position g
-  unfolding passes
-  passes-four h = rw (lt-leb (phase g) 2 (omega arith), ne-eqb (phase g) 3 (omega arith))
+  pub steps-four : phase g ≡ 4 → stepsTaken g ≡ writes g + reads g + 2 + position g
+  unfolding stepsTaken
+  steps-four h = rw (lt-leb (phase g) 2 (omega arith), ne-eqb (phase g) 3 (omega arith))
 
   pub early-fits : Head g → phase g ≤ 2 → position g ≤ writes g
   early-fits h p =

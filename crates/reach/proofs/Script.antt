@@ -55,63 +55,63 @@ script-length w r =
     omega arith
 
 -- the word k that the Advance after n others is answered with
-pub data Word (w r n k : ℕ) : Type 0 where
-  says-aborted : n < w + r + 2 → k ≡ aborted → Word w r n k
-  says-locked : n < w → k ≡ locked → Word w r n k
-  says-timed : n ≡ w + 0 → k ≡ timed → Word w r n k
-  says-checked : (i : ℕ) → i < r → n ≡ w + suc i → k ≡ checked → Word w r n k
-  says-sealed : n ≡ w + suc (r + 0) → k ≡ sealed → Word w r n k
-  says-stored : (i : ℕ) → i < w → n ≡ w + suc (r + suc i) → k ≡ stored → Word w r n k
-  says-done : n ≡ w + suc (r + suc (w + 0)) → k ≡ done → Word w r n k
+pub data NextKind (w r n k : ℕ) : Type 0 where
+  says-aborted : n < w + r + 2 → k ≡ aborted → NextKind w r n k
+  says-locked : n < w → k ≡ locked → NextKind w r n k
+  says-timed : n ≡ w + 0 → k ≡ timed → NextKind w r n k
+  says-checked : (i : ℕ) → i < r → n ≡ w + suc i → k ≡ checked → NextKind w r n k
+  says-sealed : n ≡ w + suc (r + 0) → k ≡ sealed → NextKind w r n k
+  says-stored : (i : ℕ) → i < w → n ≡ w + suc (r + suc i) → k ≡ stored → NextKind w r n k
+  says-done : n ≡ w + suc (r + suc (w + 0)) → k ≡ done → NextKind w r n k
 
-pub word-script : {w r n k : ℕ} → Word w r n k → k ≢ aborted → k ≡ getD (script w r) n ready
-word-script (says-aborted l e) d = absurd (d e)
-word-script {w} {r} {n} (says-locked l e) d = e ∙ sym (at-locked w r n l)
-word-script {w} {r} (says-timed q e) d = rw q (e ∙ sym (at-timed w r))
-word-script {w} {r} (says-checked i l q e) d = rw q (e ∙ sym (at-checked w r i l))
-word-script {w} {r} (says-sealed q e) d = rw q (e ∙ sym (at-sealed w r))
-word-script {w} {r} (says-stored i l q e) d = rw q (e ∙ sym (at-stored w r i l))
-word-script {w} {r} (says-done q e) d = rw q (e ∙ sym (at-done w r))
+pub kind-script : {w r n k : ℕ} → NextKind w r n k → k ≢ aborted → k ≡ getD (script w r) n ready
+kind-script (says-aborted l e) d = absurd (d e)
+kind-script {w} {r} {n} (says-locked l e) d = e ∙ sym (at-locked w r n l)
+kind-script {w} {r} (says-timed q e) d = rw q (e ∙ sym (at-timed w r))
+kind-script {w} {r} (says-checked i l q e) d = rw q (e ∙ sym (at-checked w r i l))
+kind-script {w} {r} (says-sealed q e) d = rw q (e ∙ sym (at-sealed w r))
+kind-script {w} {r} (says-stored i l q e) d = rw q (e ∙ sym (at-stored w r i l))
+kind-script {w} {r} (says-done q e) d = rw q (e ∙ sym (at-done w r))
 
-pub word-done : {w r n k : ℕ} → Word w r n k → (k ≡ done) ↔ (n + 1 ≡ 2 * w + r + 3)
-word-done (says-aborted l e) = (λ q. absurd (omega arith), λ q. absurd (omega arith))
-word-done (says-locked l e) = (λ q. absurd (omega arith), λ q. absurd (omega arith))
-word-done (says-timed p e) = (λ q. absurd (omega arith), λ q. absurd (omega arith))
-word-done (says-checked i l p e) = (λ q. absurd (omega arith), λ q. absurd (omega arith))
-word-done (says-sealed p e) = (λ q. absurd (omega arith), λ q. absurd (omega arith))
-word-done (says-stored i l p e) = (λ q. absurd (omega arith), λ q. absurd (omega arith))
-word-done (says-done p e) = (λ q. omega arith, λ q. e)
+pub kind-done : {w r n k : ℕ} → NextKind w r n k → (k ≡ done) ↔ (n + 1 ≡ 2 * w + r + 3)
+kind-done (says-aborted l e) = (λ q. absurd (omega arith), λ q. absurd (omega arith))
+kind-done (says-locked l e) = (λ q. absurd (omega arith), λ q. absurd (omega arith))
+kind-done (says-timed p e) = (λ q. absurd (omega arith), λ q. absurd (omega arith))
+kind-done (says-checked i l p e) = (λ q. absurd (omega arith), λ q. absurd (omega arith))
+kind-done (says-sealed p e) = (λ q. absurd (omega arith), λ q. absurd (omega arith))
+kind-done (says-stored i l p e) = (λ q. absurd (omega arith), λ q. absurd (omega arith))
+kind-done (says-done p e) = (λ q. omega arith, λ q. e)
 
-pub word-sealed : {w r n k : ℕ} → Word w r n k → w + r + 2 ≤ n → k ≢ aborted
-word-sealed (says-aborted l e) h = absurd (omega arith)
-word-sealed (says-locked l e) h = λ q. omega arith
-word-sealed (says-timed p e) h = λ q. omega arith
-word-sealed (says-checked i l p e) h = λ q. omega arith
-word-sealed (says-sealed p e) h = λ q. omega arith
-word-sealed (says-stored i l p e) h = λ q. omega arith
-word-sealed (says-done p e) h = λ q. omega arith
+pub kind-sealed : {w r n k : ℕ} → NextKind w r n k → w + r + 2 ≤ n → k ≢ aborted
+kind-sealed (says-aborted l e) h = absurd (omega arith)
+kind-sealed (says-locked l e) h = λ q. omega arith
+kind-sealed (says-timed p e) h = λ q. omega arith
+kind-sealed (says-checked i l p e) h = λ q. omega arith
+kind-sealed (says-sealed p e) h = λ q. omega arith
+kind-sealed (says-stored i l p e) h = λ q. omega arith
+kind-sealed (says-done p e) h = λ q. omega arith
 
 -- none of them is a refusal
-pub word-given : {w r n k : ℕ} → Word w r n k → k ≢ refused
-word-given (says-aborted l e) = λ q. omega arith
-word-given (says-locked l e) = λ q. omega arith
-word-given (says-timed p e) = λ q. omega arith
-word-given (says-checked i l p e) = λ q. omega arith
-word-given (says-sealed p e) = λ q. omega arith
-word-given (says-stored i l p e) = λ q. omega arith
-word-given (says-done p e) = λ q. omega arith
+pub kind-given : {w r n k : ℕ} → NextKind w r n k → k ≢ refused
+kind-given (says-aborted l e) = λ q. omega arith
+kind-given (says-locked l e) = λ q. omega arith
+kind-given (says-timed p e) = λ q. omega arith
+kind-given (says-checked i l p e) = λ q. omega arith
+kind-given (says-sealed p e) = λ q. omega arith
+kind-given (says-stored i l p e) = λ q. omega arith
+kind-given (says-done p e) = λ q. omega arith
 
 -- the script's words so far, and one more
-pub word-next : {w r n k : ℕ} → Word w r n k → k ≢ aborted → n < length (script w r) → take (n + 1) (script w r) ≡ take n (script w r) ++ (k ∷ [])
-word-next {w} {r} {n} {k} x d l =
-    ap (λ (i : ℕ). take i (script w r)) (add-one n) ∙ take-suc (script w r) n ready l ∙ ap (λ (i : ℕ). take n (script w r) ++ (i ∷ [])) (sym (word-script x d))
+pub kind-next : {w r n k : ℕ} → NextKind w r n k → k ≢ aborted → n < length (script w r) → take (n + 1) (script w r) ≡ take n (script w r) ++ (k ∷ [])
+kind-next {w} {r} {n} {k} x d l =
+    ap (λ (i : ℕ). take i (script w r)) (add-one n) ∙ take-suc (script w r) n ready l ∙ ap (λ (i : ℕ). take n (script w r) ++ (i ∷ [])) (sym (kind-script x d))
 
 -- Sealed comes after every lock, the time and every check
-pub word-sealing : {w r n k : ℕ} → Word w r n k → k ≡ sealed → n ≡ w + r + 1
-word-sealing (says-aborted l e) = λ q. absurd (omega arith)
-word-sealing (says-locked l e) = λ q. absurd (omega arith)
-word-sealing (says-timed p e) = λ q. absurd (omega arith)
-word-sealing (says-checked i l p e) = λ q. absurd (omega arith)
-word-sealing (says-sealed p e) = λ q. omega arith
-word-sealing (says-stored i l p e) = λ q. absurd (omega arith)
-word-sealing (says-done p e) = λ q. absurd (omega arith)
+pub kind-sealing : {w r n k : ℕ} → NextKind w r n k → k ≡ sealed → n ≡ w + r + 1
+kind-sealing (says-aborted l e) = λ q. absurd (omega arith)
+kind-sealing (says-locked l e) = λ q. absurd (omega arith)
+kind-sealing (says-timed p e) = λ q. absurd (omega arith)
+kind-sealing (says-checked i l p e) = λ q. absurd (omega arith)
+kind-sealing (says-sealed p e) = λ q. omega arith
+kind-sealing (says-stored i l p e) = λ q. absurd (omega arith)
+kind-sealing (says-done p e) = λ q. absurd (omega arith)

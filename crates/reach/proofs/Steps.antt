@@ -1,31 +1,34 @@
 -- What one call does to one row and to the words, and that the tables stay in order after it.
-use Prim.Native.Nat.{ℕ, _+_, _<_, _≤_}
+use Prim.Native.Nat.{ℕ, _+_, _-_, _<_, _≤_}
 use mathlib.Core.Path.{_≡_, refl, sym, ap, _∙_, subst}
 use mathlib.Core.Logic.{_≢_}
-use mathlib.Core.Bool.{not}
+use mathlib.Core.Bool.{cond, not}
 use mathlib.Core.List.{List}
 use native.Mathlib.Omega.{arith}
-use borrow.Author.Tests.{eqb-true, eqb-false}
+use borrow.Author.Tests.{eqb-true, eqb-false, eq-eqb, ne-eqb}
 use lib.Dec.{eqb}
 use lib.ListN.{length, getD, set, take}
 use lib.Seq.{getD-set-same, getD-set-other}
 use Rattle.clock.specs.Word.{top, readTime}
-use Rattle.rules.specs.Layout.{seatCount, row, phase, owner, reads, writes}
+use Rattle.rules.specs.Layout.{seatCount, row, phase, owner, position, reads, writes, time}
 use Rattle.rules.specs.Tables.{Tables, Outcome, keep}
 use Rattle.rules.specs.Answers.{ready, refused, kind, number}
 use Rattle.rules.specs.declared.Answer.{Answer}
 use Rattle.rows.specs.Becomes.{Becomes, stays}
-use Rattle.reach.specs.Tally.{Tally, adds}
+use Rattle.observer.specs.Observer.{Seen}
+use Rattle.observer.proofs.Entries.{firstReads, writeEntries}
+use Rattle.observer.proofs.Shows.{Shows}
 use Rattle.reach.specs.Life.{script}
 use Rattle.reach.proofs.Tests.{by}
 use Rattle.reach.proofs.Count.{one, count-change, count-has}
-use Rattle.reach.proofs.Order.{Row, locks, written, readList, passes, Books, lockBit, InOrder}
-use Rattle.reach.proofs.Books.{heldBy}
+use Rattle.reach.proofs.InOrder.{Row, locks, stepsTaken, WithinPlan, lockBit, InOrder}
+use Rattle.reach.proofs.WithinPlan.{heldBy}
 
 -- a record's lock goes with the hold on it of the row that was g and is h
 abbrev pub Follows : (words words′ g h : List ℕ) → Type 0
 Follows words words′ g h =
-    (item : ℕ) → item < length words → one (locks g item) ≤ lockBit words item → lockBit words′ item + one (locks g item) ≡ lockBit words item + one (locks h item)
+    (item : ℕ) → item < length words → one (locks g item) ≤ lockBit words item →
+    lockBit words′ item + one (locks g item) ≡ lockBit words item + one (locks h item)
 
 -- no read time comes to be above T
 abbrev pub StaysTimely : (words words′ : List ℕ) → Type 0
@@ -40,49 +43,85 @@ pub record Change (t t′ : Tables) (s : ℕ) (h : List ℕ) : Type 0 where
   pub locked : Follows (t .words) (t′ .words) (row (t .seats) s) h
   pub timely : StaysTimely (t .words) (t′ .words)
 
--- what calls and answers tell of a row
-abbrev pub tallyOf : List ℕ → Tally
-tallyOf g =
+-- what is seen of a seat, by its row
+abbrev pub seenOf : List ℕ → Seen
+seenOf g =
     record {
       isOpen = not (eqb (phase g) 0);
       holder = owner g;
-      words = take (passes g) (script (writes g) (reads g));
+      advances = take (stepsTaken g) (script (writes g) (reads g));
       isSealed = eqb (phase g) 4;
-      wrote = written g;
-      read = readList g;
+      reads = firstReads g;
+      writes = writeEntries g;
       locked = locks g;
+      key = time g;
+      left = cond (eqb (phase g) 4) (writes g - position g) 0;
     }
 
-pub tally-is : (h : List ℕ) (k : Tally) → not (eqb (phase h) 0) ≡ k .isOpen → owner h ≡ k .holder →
-    take (passes h) (script (writes h) (reads h)) ≡ k .words → eqb (phase h) 4 ≡ k .isSealed → ((x : ℕ) → written h x ≡ k .wrote x) →
-    readList h ≡ k .read → ((x : ℕ) → locks h x ≡ k .locked x) → tallyOf h ≡ k
-tally-is h k p q a b c d e =
-    λ i. record { isOpen = p i; holder = q i; words = a i; isSealed = b i; wrote = λ x. c x i; read = d i; locked = λ x. e x i }
+pub row-shows : (g : List ℕ) → Shows g (seenOf g)
+row-shows g = record { is-reads = refl; is-writes = refl }
 
--- what an answer says of the row before and after, for a call that names y
-pub record Told (y : ℕ) (g h : List ℕ) (a : Answer) : Type 0 where
-  pub tallied : tallyOf h ≡ adds y a (tallyOf g)
+-- it is x where it is so part by part
+pub record SeenAs (g : List ℕ) (x : Seen) : Type 0 where
+  pub is-open : not (eqb (phase g) 0) ≡ x .isOpen
+  pub is-holder : owner g ≡ x .holder
+  pub is-advances : take (stepsTaken g) (script (writes g) (reads g)) ≡ x .advances
+  pub is-sealed : eqb (phase g) 4 ≡ x .isSealed
+  pub shows : Shows g x
+  pub is-locked : (item : ℕ) → locks g item ≡ x .locked item
+  pub is-key : time g ≡ x .key
+  pub is-left : cond (eqb (phase g) 4) (writes g - position g) 0 ≡ x .left
+
+pub seen-as : (g : List ℕ) (x : Seen) → SeenAs g x → seenOf g ≡ x
+seen-as g x z = λ i.
+    record {
+      isOpen = z .is-open i;
+      holder = z .is-holder i;
+      advances = z .is-advances i;
+      isSealed = z .is-sealed i;
+      reads = z .shows .is-reads i;
+      writes = z .shows .is-writes i;
+      locked = λ item. z .is-locked item i;
+      key = z .is-key i;
+      left = z .is-left i;
+    }
+
+-- the stores to come, in phase 4 and before it
+pub left-four : (g : List ℕ) → phase g ≡ 4 → cond (eqb (phase g) 4) (writes g - position g) 0 ≡ writes g - position g
+left-four g e = rw (eq-eqb (phase g) 4 e) refl
+
+pub left-none : (g : List ℕ) → phase g ≢ 4 → cond (eqb (phase g) 4) (writes g - position g) 0 ≡ 0
+left-none g d = rw (ne-eqb (phase g) 4 d) refl
+
+-- what an answer says of the row before and after; f is what the call's answer shows of the seat
+pub record Tells (f : Seen → Answer → Seen) (g h : List ℕ) (a : Answer) : Type 0 where
+  pub shown : seenOf h ≡ f (seenOf g) a
   pub fair : kind a ≡ refused → number a ≢ 3
   pub plain : kind a ≢ ready
 
-pub record Step (t : Tables) (s y : ℕ) (o : Outcome) : Type 0 where
+pub record Step (t : Tables) (s : ℕ) (f : Seen → Answer → Seen) (o : Outcome) : Type 0 where
   pub next : List ℕ
   pub change : Change t (o .tables) s next
   pub mine : (w : ℕ) → one (heldBy next w) ≤ one (heldBy (row (t .seats) s) w)
-  pub told : Told y (row (t .seats) s) next (o .answer)
+  pub told : Tells f (row (t .seats) s) next (o .answer)
 
-pub state-after : (t t′ : Tables) (s : ℕ) (h : List ℕ) → s < seatCount → Change t t′ s h → Books (t′ .seats) → InOrder t → InOrder t′
+pub state-after : (t t′ : Tables) (s : ℕ) (h : List ℕ) → s < seatCount → Change t t′ s h → WithinPlan (t′ .seats) → InOrder t → InOrder t′
 state-after t t′ s h low c b k =
     let el = c .words in
     let ev = c .values in
     let z = k .sized in
     record {
-      sized = record { same = let q = z .same in omega arith; some = let q = z .some in omega arith; few = let q = z .few in omega arith; rows = c .becomes .size ∙ z .rows };
+      sized = record {
+        same = let q = z .same in omega arith;
+        some = let q = z .some in omega arith;
+        few = let q = z .few in omega arith;
+        rows = c .becomes .size ∙ z .rows;
+      };
       rows = λ r l. rw el
           (by (eqb r s)
           (λ e. rw (eqb-true r s e, c .becomes .own) (c .in-order))
           (λ e. rw (c .becomes .others r (eqb-false r s e)) (k .rows r l)));
-      books = b;
+      within = b;
       held-once = λ item q.
           let l : item < length (t .words) = omega arith in
           let a = k .held-once item l in
@@ -97,9 +136,9 @@ state-after t t′ s h low c b k =
     }
 
 -- an answer that leaves all tables
-pub step-keep : (t : Tables) (s y : ℕ) (a : Answer) → Row (length (t .words)) (row (t .seats) s) → Told y (row (t .seats) s) (row (t .seats) s) a →
-    Step t s y (keep t a)
-step-keep t s y a r q =
+pub step-keep : (t : Tables) (s : ℕ) (f : Seen → Answer → Seen) (a : Answer) → Row (length (t .words)) (row (t .seats) s) →
+    Tells f (row (t .seats) s) (row (t .seats) s) a → Step t s f (keep t a)
+step-keep t s f a r q =
     record {
       next = row (t .seats) s;
       change = record { becomes = stays (t .seats) s; values = refl; words = refl; in-order = r; locked = λ item l e. refl; timely = λ item l e. e };

@@ -23,11 +23,11 @@ use Rattle.reach.specs.FairShare.{asks}
 use Rattle.reach.specs.Storm.{stormPlan, seatsFrom, StormWeathered}
 use Rattle.reach.proofs.Tests.{by}
 use Rattle.reach.proofs.Count.{sum-same, count-none}
-use Rattle.reach.proofs.Order.{InOrder}
+use Rattle.reach.proofs.InOrder.{InOrder}
 use Rattle.reach.proofs.Script.{front}
-use Rattle.reach.proofs.Books.{heldBy, held-free, held-more, held-rest}
+use Rattle.reach.proofs.WithinPlan.{heldBy, held-free, held-more, held-rest}
 use Rattle.reach.proofs.Opens.{free-seat}
-use Rattle.reach.proofs.Effects.{effect, after-effect}
+use Rattle.reach.proofs.Effects.{effect-of, after-effect}
 use Rattle.reach.proofs.Reached.{begun-in-order, begun-free, begun-plan}
 use Rattle.reach.proofs.FairShare.{opens, Asked, at-limit, no-room, gets-seat, asked, given}
 use Rattle.reach.proofs.Left.{refusal-leaves-all}
@@ -98,7 +98,7 @@ module _ (t : Tables) (n a b : ℕ) (c : Crowd t n a b) where
       let ow = opened-row o .is-owner in (
         ap (λ (q : Outcome). q .answer) (opens t o e) ∙ ap Seat at,
         record {
-          in-order = after-effect t (Open o) (step t (Open o)) k (effect t k (Open o));
+          in-order = after-effect t (Open o) (step t (Open o)) k (effect-of t k (Open o));
           plan = λ i l. z .plan i l ∙ c .plan i l;
           helds = λ w. by (eqb w o)
               (λ q. rw (eqb-true w o q) (held-more z inside o was ph ow ∙ ap (λ (i : ℕ). i + 1) (c .helds o) ∙ sym more))

@@ -3,16 +3,18 @@ use Prim.Native.Nat.{ℕ, _<_, _≤_}
 use mathlib.Core.Path.{_≡_}
 use mathlib.Core.Logic.{_≢_, _↔_}
 use mathlib.Core.Bool.{true, false, cond}
-use mathlib.Core.List.{List}
+use mathlib.Core.List.{List, map}
 use lib.ListN.{length, getD}
 use lib.Dec.{eqb, leb}
 use Rattle.clock.specs.Word.{top, isLocked, writeTime, readTime}
-use Rattle.rules.specs.Layout.{seatCount, rowWidth, writesFrom, readItemAt, writeItemAt, row, cell, phase, position, reads, writes, time, readItem, keptWrite, keptRead, writeItem}
+use Rattle.rules.specs.Layout.{seatCount, rowWidth, writesFrom, readItemAt, writeItemAt, row, cell, phase, position, reads, writes, time}
+use Rattle.rules.specs.Layout.{readItem, keptWrite, keptRead, writeItem}
 use Rattle.rules.specs.Tables.{Tables}
 use Rattle.rules.specs.Refusals.{damaged}
 use Rattle.rows.specs.Fine.{Sized}
+use Rattle.observer.specs.Observer.{FirstRead}
 use Rattle.reach.specs.Reached.{Reached, seen}
-use Rattle.reach.specs.Tally.{tally, r}
+use Rattle.reach.specs.Counts.{readCount}
 
 -- LOCKS. A row holds the locks of its write entries from `lockFrom` below `lockTo`:
 -- in phases 1 and 2 of the first `position`, in phase 3 of all, in phase 4 of those from position on
@@ -63,11 +65,15 @@ module _ (t : Tables) where
   abbrev pub ReadsDistinct : Type 0
   ReadsDistinct = (s i j : ℕ) → InUse s → i < j → j < reads (rowOf t s) → readItem (rowOf t s) i ≢ readItem (rowOf t s) j
 
+  -- the record of a first read
+  abbrev pub firstItem : FirstRead → ℕ
+  firstItem e = e .item
+
   -- read entries stand in order of first read, as calls and answers tell it: there are as many as records first read, and each names the one at its place
   abbrev pub ReadsInOrder : Reached t → Type 0
   ReadsInOrder z = (s : ℕ) → s < seatCount →
-      (reads (rowOf t s) ≡ r (tally s (seen z)))
-      × ((i : ℕ) → i < reads (rowOf t s) → readItem (rowOf t s) i ≡ getD (tally s (seen z) .read) i 0)
+      (reads (rowOf t s) ≡ readCount (seen z .seats s))
+      × ((i : ℕ) → i < reads (rowOf t s) → readItem (rowOf t s) i ≡ getD (map firstItem (seen z .seats s .reads)) i 0)
 
   abbrev pub ReadsInRange : Type 0
   ReadsInRange = (s i : ℕ) → InUse s → i < reads (rowOf t s) → readItem (rowOf t s) i < length (t .words)

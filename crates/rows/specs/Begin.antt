@@ -41,7 +41,8 @@ begun t start plan =
 pub setup-ready : (t : Tables) (start : ℕ) (plan : List ℕ) → kind (setup t start plan .answer) ≡ ready → setupRefusal t start plan ≡ 0
 unfolding setup
 setup-ready t start plan =
-    cond-ind (λ (z : Outcome). kind (z .answer) ≡ ready → setupRefusal t start plan ≡ 0) (eqb (setupRefusal t start plan) 0) (λ a _. eqb-true _ _ a) (λ _ e. absurd (omega arith))
+    cond-ind (λ (z : Outcome). kind (z .answer) ≡ ready → setupRefusal t start plan ≡ 0) (eqb (setupRefusal t start plan) 0) (λ a _. eqb-true _ _ a)
+    (λ _ e. absurd (omega arith))
 
 -- the plan is laid over the table's first places, and every row is zero
 pub length-laid : (l plan : List ℕ) (n : ℕ) → length (laid l plan n) ≡ length l

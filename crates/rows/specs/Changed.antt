@@ -7,7 +7,9 @@ use native.Mathlib.Omega.{arith}
 use native.Mathlib.Nat.{eq-or-lt-of-le, le-of-suc-le-suc}
 use lib.ListN.{length, getD, set, replicate, length-set, length-replicate}
 use lib.Seq.{getD-set-same, getD-set-other, ext-getD}
-use Rattle.rules.specs.Layout.{rowWidth, writeWidth, phaseAt, ownerAt, positionAt, readsAt, writesAt, timeAt, readItemAt, readValueAt, keptWriteAt, keptReadAt, writeItemAt, writeValueAt, phase, owner, position, reads, writes, time, readItem, readValue, keptWrite, keptRead, writeItem, writeValue}
+use Rattle.rules.specs.Layout.{rowWidth, writeWidth, phaseAt, ownerAt, positionAt, readsAt, writesAt, timeAt, readItemAt, readValueAt}
+use Rattle.rules.specs.Layout.{keptWriteAt, keptReadAt, writeItemAt, writeValueAt, phase, owner, position, reads, writes, time, readItem}
+use Rattle.rules.specs.Layout.{readValue, keptWrite, keptRead, writeItem, writeValue}
 
 -- THE FREE ROW: zero throughout
 abbrev pub freeRow : List ℕ
@@ -43,7 +45,8 @@ zeroed-at g (suc n) f h l =
 pub zeroed-free : (g : List ℕ) → length g ≡ rowWidth → zeroed g rowWidth ≡ freeRow
 zeroed-free g n =
     let z = length-zeroed g rowWidth in
-    ext-getD 0 (zeroed g rowWidth) freeRow (z ∙ n ∙ sym (length-replicate {A = ℕ} rowWidth 0)) (λ f h. zeroed-at g rowWidth f (omega arith) (omega arith) ∙ sym (free-at f))
+    ext-getD 0 (zeroed g rowWidth) freeRow (z ∙ n ∙ sym (length-replicate {A = ℕ} rowWidth 0))
+    (λ f h. zeroed-at g rowWidth f (omega arith) (omega arith) ∙ sym (free-at f))
 
 -- AN OPENED ROW: zero but for phase 1 and the owner
 abbrev pub openedRow : ℕ → List ℕ
@@ -117,7 +120,7 @@ notedRow g item value wrote upTo =
     let n : ℕ = reads g in
     set (set (set (set (set g (readItemAt n) item) (readValueAt n) value) (keptWriteAt n) wrote) (keptReadAt n) upTo) readsAt (n + 1)
 
-pub record Noted (g h : List ℕ) (item value wrote upTo : ℕ) : Type 0 where
+pub record WithRead (g h : List ℕ) (item value wrote upTo : ℕ) : Type 0 where
   pub size : length h ≡ rowWidth
   pub count : reads h ≡ reads g + 1
   pub has-item : readItem h (reads g) ≡ item
@@ -127,7 +130,8 @@ pub record Noted (g h : List ℕ) (item value wrote upTo : ℕ) : Type 0 where
   pub before : (f : ℕ) → f ≢ readsAt → f < readItemAt (reads g) → getD h f 0 ≡ getD g f 0
   pub behind : (f : ℕ) → readItemAt (reads g + 1) ≤ f → getD h f 0 ≡ getD g f 0
 
-pub noted-row : (g : List ℕ) (item value wrote upTo : ℕ) → length g ≡ rowWidth → readItemAt (reads g + 1) ≤ rowWidth → Noted g (notedRow g item value wrote upTo) item value wrote upTo
+pub noted-row : (g : List ℕ) (item value wrote upTo : ℕ) → length g ≡ rowWidth → readItemAt (reads g + 1) ≤ rowWidth →
+    WithRead g (notedRow g item value wrote upTo) item value wrote upTo
 noted-row g item value wrote upTo size room =
     record {
       size = s5;
@@ -143,7 +147,8 @@ noted-row g item value wrote upTo size room =
           ∙ getD-set-other g3 (keptReadAt n) (readValueAt n) upTo 0 (omega arith)
           ∙ getD-set-other g2 (keptWriteAt n) (readValueAt n) wrote 0 (omega arith)
           ∙ getD-set-same g1 (readValueAt n) value 0 (omega (arith, s1));
-      has-wrote = head (keptWriteAt n) (omega arith) ∙ getD-set-other g3 (keptReadAt n) (keptWriteAt n) upTo 0 (omega arith) ∙ getD-set-same g2 (keptWriteAt n) wrote 0 (omega (arith, s2));
+      has-wrote = head (keptWriteAt n) (omega arith) ∙ getD-set-other g3 (keptReadAt n) (keptWriteAt n) upTo 0 (omega arith)
+          ∙ getD-set-same g2 (keptWriteAt n) wrote 0 (omega (arith, s2));
       has-upTo = head (keptReadAt n) (omega arith) ∙ getD-set-same g3 (keptReadAt n) upTo 0 (omega (arith, s3));
       before = λ f d l. rest f d (omega arith) (omega arith) (omega arith) (omega arith);
       behind = λ f l. rest f (omega arith) (omega arith) (omega arith) (omega arith) (omega arith);
@@ -183,7 +188,9 @@ noted-row g item value wrote upTo size room =
     head f d = getD-set-other g4 readsAt f (n + 1) 0 d
 
     rest : (f : ℕ) → f ≢ readsAt → f ≢ readItemAt n → f ≢ readValueAt n → f ≢ keptWriteAt n → f ≢ keptReadAt n → getD (set g4 readsAt (n + 1)) f 0 ≡ getD g f 0
-    rest f d a b c e = head f d ∙ getD-set-other g3 (keptReadAt n) f upTo 0 e ∙ getD-set-other g2 (keptWriteAt n) f wrote 0 c ∙ getD-set-other g1 (readValueAt n) f value 0 b ∙ getD-set-other g (readItemAt n) f item 0 a
+    rest f d a b c e =
+        head f d ∙ getD-set-other g3 (keptReadAt n) f upTo 0 e ∙ getD-set-other g2 (keptWriteAt n) f wrote 0 c
+        ∙ getD-set-other g1 (readValueAt n) f value 0 b ∙ getD-set-other g (readItemAt n) f item 0 a
 
 -- A SLIDE: the last k of a row's numbers below place e, each moved up by w places
 unfoldable pub slidRow : List ℕ → ℕ → ℕ → ℕ → List ℕ
@@ -200,7 +207,8 @@ module _ (g : List ℕ) (e w : ℕ) where
   pub slid-below : (k f : ℕ) → k ≤ e → f < e - k + w → getD (slidRow g e w k) f 0 ≡ getD g f 0
   unfolding slidRow
   slid-below zero f h l = refl
-  slid-below (suc k) f h l = getD-set-other (slidRow g e w k) (e - suc k + w) f (getD g (e - suc k) 0) 0 (omega arith) ∙ slid-below k f (omega arith) (omega arith)
+  slid-below (suc k) f h l =
+      getD-set-other (slidRow g e w k) (e - suc k + w) f (getD g (e - suc k) 0) 0 (omega arith) ∙ slid-below k f (omega arith) (omega arith)
 
   pub slid-behind : (k f : ℕ) → k ≤ e → e + w ≤ f → getD (slidRow g e w k) f 0 ≡ getD g f 0
   unfolding slidRow
@@ -214,7 +222,8 @@ module _ (g : List ℕ) (e w : ℕ) where
   slid-up (suc k) f h room a b =
       ⊎-elim
       (λ (q : e - suc k ≡ f). rw (← q) (getD-set-same (slidRow g e w k) (e - suc k + w) (getD g (e - suc k) 0) 0 (let z = length-slid k in omega arith)))
-      (λ (m : e - suc k < f). getD-set-other (slidRow g e w k) (e - suc k + w) (f + w) (getD g (e - suc k) 0) 0 (omega arith) ∙ slid-up k f (omega arith) room (omega arith) b)
+      (λ (m : e - suc k < f). getD-set-other (slidRow g e w k) (e - suc k + w) (f + w) (getD g (e - suc k) 0) 0 (omega arith)
+      ∙ slid-up k f (omega arith) room (omega arith) b)
       (eq-or-lt-of-le a)
 
 -- A ROW WITH A NEW WRITE ENTRY at place i: those from there on stand one place further up
@@ -223,7 +232,7 @@ placedRow g i item value =
     let n : ℕ = writes g in
     set (set (set (slidRow g (writeItemAt n) writeWidth (writeItemAt n - writeItemAt i)) (writeItemAt i) item) (writeValueAt i) value) writesAt (n + 1)
 
-pub record Placed (g h : List ℕ) (i item value : ℕ) : Type 0 where
+pub record WithWrite (g h : List ℕ) (i item value : ℕ) : Type 0 where
   pub size : length h ≡ rowWidth
   pub count : writes h ≡ writes g + 1
   pub has-item : writeItem h i ≡ item
@@ -232,13 +241,15 @@ pub record Placed (g h : List ℕ) (i item value : ℕ) : Type 0 where
   pub up : (f : ℕ) → writeItemAt i ≤ f → f < writeItemAt (writes g) → getD h (f + writeWidth) 0 ≡ getD g f 0
   pub behind : (f : ℕ) → writeItemAt (writes g + 1) ≤ f → getD h f 0 ≡ getD g f 0
 
-pub placed-row : (g : List ℕ) (i item value : ℕ) → length g ≡ rowWidth → i ≤ writes g → writeItemAt (writes g + 1) ≤ rowWidth → Placed g (placedRow g i item value) i item value
+pub placed-row : (g : List ℕ) (i item value : ℕ) → length g ≡ rowWidth → i ≤ writes g → writeItemAt (writes g + 1) ≤ rowWidth →
+    WithWrite g (placedRow g i item value) i item value
 unfolding placedRow
 placed-row g i item value size low room =
     record {
       size = length-set g2 writesAt (n + 1) ∙ s2;
       count = getD-set-same g2 writesAt (n + 1) 0 (omega (arith, s2));
-      has-item = head (writeItemAt i) (omega arith) ∙ getD-set-other g1 (writeValueAt i) (writeItemAt i) value 0 (omega arith) ∙ getD-set-same g0 (writeItemAt i) item 0 (omega (arith, s0));
+      has-item = head (writeItemAt i) (omega arith) ∙ getD-set-other g1 (writeValueAt i) (writeItemAt i) value 0 (omega arith)
+          ∙ getD-set-same g0 (writeItemAt i) item 0 (omega (arith, s0));
       has-value = head (writeValueAt i) (omega arith) ∙ getD-set-same g1 (writeValueAt i) value 0 (omega (arith, s1));
       before = λ f d l. rest f d (omega arith) (omega arith) ∙ slid-below g e writeWidth k f (omega arith) (omega arith);
       up = λ f a b. rest (f + writeWidth) (omega arith) (omega arith) (omega arith) ∙ slid-up g e writeWidth k f (omega arith) (omega arith) (omega arith) b;

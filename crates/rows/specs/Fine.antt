@@ -10,7 +10,8 @@ use lib.Dec.{eqb, ltb}
 use lib.ListN.{length}
 use Rattle.clock.specs.Word.{top}
 use Rattle.rules.specs.Tests.{any, oneOf, firstOf}
-use Rattle.rules.specs.Layout.{owners, seatCount, mostRecords, mostReads, mostWrites, rowWidth, seatsLength, row, phase, owner, position, reads, writes, time, readItem, keptWrite, writeItem}
+use Rattle.rules.specs.Layout.{owners, seatCount, mostRecords, mostReads, mostWrites, rowWidth, seatsLength, row, phase, owner, position}
+use Rattle.rules.specs.Layout.{reads, writes, time, readItem, keptWrite, writeItem}
 use Rattle.rules.specs.Places.{length-row}
 use Rattle.rules.specs.Tables.{Tables}
 use Rattle.rules.specs.Refusals.{unsized, misnamed, misplaced, late, badRead, badWrite, badHead, badEntry, damaged, foreign, rowRefusal, refusal, recordRefusal}
@@ -73,7 +74,7 @@ pub record Sound (g : List ℕ) (records : ℕ) : Type 0 where
   pub owner-in : owner g < owners
   pub reads-in : reads g ≤ mostReads
   pub writes-in : writes g ≤ mostWrites
-  pub placed : misplaced (phase g) (position g) (reads g) (writes g) ≡ false
+  pub in-place : misplaced (phase g) (position g) (reads g) (writes g) ≡ false
   pub timely : late (phase g) (time g) ≡ false
   pub good-reads : any (badRead g records) (reads g) ≡ false
   pub good-writes : any (badWrite g records) (writes g) ≡ false
@@ -89,7 +90,7 @@ sound-of g records e used =
       owner-in = leb-false _ _ (head .1 .0);
       reads-in = ltb-false _ _ (head .1 .1 .0);
       writes-in = ltb-false _ _ (head .1 .1 .1 .0);
-      placed = head .1 .1 .1 .1 .0;
+      in-place = head .1 .1 .1 .1 .0;
       timely = head .1 .1 .1 .1 .1 .0;
       good-reads = entries .0;
       good-writes = entries .1 .0;
@@ -115,33 +116,34 @@ module _ (g : List ℕ) (records : ℕ) (h : Sound g records) where
   kept-below i p l = ltb-false _ _ (simp (le-leb _ _ p) at (none-of _ (none-at _ _ i (h .good-reads) l) .1 .0))
 
   -- the position that each phase has
-  pub placed-one : phase g ≡ 1 → position g ≡ 0
+  pub position-one : phase g ≡ 1 → position g ≡ 0
   unfolding misplaced
-  placed-one e = eqb-true _ _ (not-false _ (rw e at (h .placed)))
+  position-one e = eqb-true _ _ (not-false _ (rw e at (h .in-place)))
 
-  pub placed-two : phase g ≡ 2 → (position g ≢ 0) × (position g ≤ writes g)
+  pub position-two : phase g ≡ 2 → (position g ≢ 0) × (position g ≤ writes g)
   unfolding misplaced
-  placed-two e =
-      let n = neither (eqb (position g) 0) (ltb (writes g) (position g)) (rw e at (h .placed)) in
+  position-two e =
+      let n = neither (eqb (position g) 0) (ltb (writes g) (position g)) (rw e at (h .in-place)) in
       (eqb-false _ _ (n .0), ltb-false _ _ (n .1))
 
-  pub placed-three : phase g ≡ 3 → position g ≤ reads g
+  pub position-three : phase g ≡ 3 → position g ≤ reads g
   unfolding misplaced
-  placed-three e = ltb-false _ _ (rw e at (h .placed))
+  position-three e = ltb-false _ _ (rw e at (h .in-place))
 
-  pub placed-low : phase g ≢ 0 → phase g ≤ 2 → position g ≤ writes g
-  placed-low d l = go (phase g) refl
+  pub position-low : phase g ≢ 0 → phase g ≤ 2 → position g ≤ writes g
+  position-low d l = go (phase g) refl
     where
       go : (n : ℕ) → phase g ≡ n → position g ≤ writes g
       go zero e = absurd (d e)
-      go (suc zero) e = let z = placed-one e in omega arith
-      go (suc (suc zero)) e = placed-two e .1
+      go (suc zero) e = let z = position-one e in omega arith
+      go (suc (suc zero)) e = position-two e .1
       go (suc (suc (suc n))) e = absurd (omega arith)
 
   -- a row in phases 1 to 3 holds no more locks than it has writes
   pub locks-small : phase g ≢ 0 → phase g ≤ 3 → heldLocks g ≤ writes g
   unfolding heldLocks
-  locks-small d l = cond-ind (λ (n : ℕ). n ≤ writes g) (eqb (phase g) 3) (λ e. omega arith) (λ e. let q : phase g ≢ 3 = eqb-false _ _ e in placed-low d (omega arith))
+  locks-small d l =
+      cond-ind (λ (n : ℕ). n ≤ writes g) (eqb (phase g) 3) (λ e. omega arith) (λ e. let q : phase g ≢ 3 = eqb-false _ _ e in position-low d (omega arith))
 
 -- A CALL THAT NAMES A SEAT and is not refused
 pub record Fine (t : Tables) (o s last : ℕ) : Type 0 where

@@ -26,7 +26,8 @@ module _ (seats : List ℕ) where
   counted s h = simp (ne-eqb _ _ h, eq-eqb (owner (row seats s)) (owner (row seats s)) refl)
 
   -- the first n rows, none of them free and each with an owner, are held by the owners
-  all-held : (n : ℕ) → ((s : ℕ) → s < n → phase (row seats s) ≢ 0) → ((s : ℕ) → s < n → owner (row seats s) < owners) → n ≤ sumTo (λ o. count (holds seats o) n) owners
+  all-held : (n : ℕ) → ((s : ℕ) → s < n → phase (row seats s) ≢ 0) → ((s : ℕ) → s < n → owner (row seats s) < owners) →
+      n ≤ sumTo (λ o. count (holds seats o) n) owners
   unfolding count
   all-held zero busy own = omega arith
   all-held (suc n) busy own =

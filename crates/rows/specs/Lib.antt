@@ -6,3 +6,4 @@ pub mod FreeSeat
 pub mod Changed
 pub mod Becomes
 pub mod Begin
+pub mod Released

@@ -73,7 +73,8 @@ scan-stops p (suc n) j i a l e = step p n j i a l e (p j) refl (λ h. scan-stops
     differs : (p : ℕ → Bool) (j i : ℕ) → p i ≡ true → p j ≡ false → j ≡ i → ⊥
     differs p j i e q z = true≢false (sym e ∙ ap p (sym z) ∙ q)
 
-    step : (p : ℕ → Bool) (n j i : ℕ) → j ≤ i → i < j + suc n → p i ≡ true → (b : Bool) → p j ≡ b → (suc j ≤ i → scan p (suc j) n ≤ i) → cond b j (scan p (suc j) n) ≤ i
+    step : (p : ℕ → Bool) (n j i : ℕ) → j ≤ i → i < j + suc n → p i ≡ true → (b : Bool) → p j ≡ b → (suc j ≤ i → scan p (suc j) n ≤ i) →
+        cond b j (scan p (suc j) n) ≤ i
     step p n j i a l e true q h = a
     step p n j i a l e false q h = h (let d : j ≢ i = differs p j i e q in omega arith)
 
@@ -101,7 +102,8 @@ unfolding scan
 scan-hit p zero i h = absurd (omega arith)
 scan-hit p (suc n) i h = go (p i) refl (λ l. scan-hit p n (suc i) l) h
   where
-    go : (b : Bool) → p i ≡ b → (scan p (suc i) n < suc i + n → p (scan p (suc i) n) ≡ true) → cond b i (scan p (suc i) n) < i + suc n → p (cond b i (scan p (suc i) n)) ≡ true
+    go : (b : Bool) → p i ≡ b → (scan p (suc i) n < suc i + n → p (scan p (suc i) n) ≡ true) → cond b i (scan p (suc i) n) < i + suc n →
+        p (cond b i (scan p (suc i) n)) ≡ true
     go true q k l = q
     go false q k l = k (omega arith)
 

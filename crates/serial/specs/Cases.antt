@@ -13,7 +13,9 @@ use Rattle.cases.specs.Quick.{quick-history}
 use Rattle.cases.specs.Cases.{blank, plan, computed, Case, tape, Plays, P8, TapeX, table, tape-x}
 use Rattle.rules.specs.declared.Answer.{Answer}
 use Rattle.rules.specs.declared.Answer.the-variants.{Ready, Seat, Value, Noted, Locked, Timed, Checked, Sealed, Stored, Done}
-use Rattle.serial.specs.Statement.{FirstRead, Transaction, Observer, Values, nothing, changed, has, isKnown, onRead, folded, renewed, inserted, onWrite, onTimed, toStore, onSealed, onStored, onAdvance, begins, observe, observed, before, placed, allPlaced, serial, written, outcome, Right, AllStored}
+use Rattle.observer.specs.Observer.{FirstRead, Transaction, Observer, nothing, has, isKnown, onRead, folded, renewed, inserted, onWrite, onAdvance, onAbandon}
+use Rattle.observer.specs.Observer.{changed, observe, observed}
+use Rattle.serial.specs.Statement.{Values, precedes, ranked, allRanked, serial, written, valuesAfterAll, Right, AllStored}
 
 -- calls with answers, and that a history is its calls with its answers
 unfoldable pub paired : List Call → List Answer → List Event
@@ -42,7 +44,7 @@ zeros item = 0
 
 -- what the observer computes with
 unfoldable pub observing : Unit {0}
-unfolding plan paired changed has isKnown onRead folded renewed inserted onWrite onTimed toStore onSealed onStored onAdvance begins observe observed before placed allPlaced
+unfolding plan paired has isKnown onRead folded renewed inserted onWrite onAdvance onAbandon changed observe observed precedes ranked allRanked
 observing = tt
 
 -- TAPE X
@@ -69,8 +71,8 @@ pub x-right : Right (reader ∷ writer ∷ []) zeros
 unfolding Right written
 x-right = (λ e i. ap (λ (z : FirstRead). z .value) (sym (eq-of-singleton i)), (λ e i. absurd (not-nil i), tt))
 
-pub x-final : outcome (reader ∷ writer ∷ []) zeros 0 ≡ 7
-unfolding outcome written effect
+pub x-final : valuesAfterAll (reader ∷ writer ∷ []) zeros 0 ≡ 7
+unfolding valuesAfterAll written effect
 x-final = refl
 
 pub x-stored : AllStored (seen TapeX)

@@ -1,1 +1,1 @@
-// Demand 3, the serial order, over the rules alone: its statement and its proof are in specs/.
+// Demand 3, the serial order, over the rules alone. Statements and examples in specs/, their proofs in proofs/; no code.
