@@ -9,20 +9,19 @@ use borrow.Author.Tests.{eqb-true, leb-false}
 use lib.Dec.{ltb, eqb}
 use lib.ListN.{length, getD, length-replicate}
 use Rattle.clock.specs.Word.{top, fresh}
-use Rattle.rules.specs.Tests.{firstOf}
-use Rattle.rules.specs.Layout.{seatCount, planWidth, row, phase}
+use Rattle.rules.specs.Layout.{seatCount, planWidth, row, phase, working, storing, checking}
 use Rattle.rules.specs.Tables.{Tables, Outcome, keep, unless}
-use Rattle.rules.specs.Refusals.{unsized, misnamed, refusal}
+use Rattle.rules.specs.Refusals.{unsized, misnamed, refusal, rowRefusal, recordRefusal, seatRefusal}
 use Rattle.rules.specs.Plan.{badPlan, setupRefusal, setup, openRefusal, freeSeat, openSeat}
 use Rattle.rules.specs.Work.{readIn, read, writeIn, write}
 use Rattle.rules.specs.Advance.{letGo, advanceIn, advance, abandon}
 use Rattle.rules.specs.Calls.{Call, Setup, Open, Read, Write, Advance, Abandon, step, run}
 use Rattle.rules.specs.declared.Answer.{Answer}
 use Rattle.rules.specs.declared.Answer.the-variants.{Ready, Refused, Dropped}
-use Rattle.rows.specs.Fine.{cond-ind, none-of, Fine, fine}
+use Rattle.rows.specs.Fine.{cond-ind, none-of, Fine, fine, item-in}
 use Rattle.rows.specs.Begin.{begun}
 use Rattle.observer.specs.Observer.{Seen, Observer, givenTo, onAdvance, onAbandon, changed, observe}
-use Rattle.reach.proofs.Tests.{by, not-third}
+use Rattle.reach.proofs.Tests.{by, not-first}
 use Rattle.reach.proofs.InOrder.{Zero, Used, WithinPlan, InOrder}
 use Rattle.reach.proofs.Rows.{undamaged}
 use Rattle.reach.proofs.WithinPlan.{within-less}
@@ -51,19 +50,19 @@ either : (t : Tables) (c : Call) (why : ℕ) (o : Outcome) → why ≢ 3 → (wh
 either t c why o d f = cond-ind (Effect t c) (eqb why 0) (λ e. f (eqb-true why 0 e)) (λ e. refuses why d refl)
 
 -- A CALL THAT NAMES A SEAT
-pub seat-in : (n o s x : ℕ) → misnamed n o s x ≡ false → s < seatCount
+pub seat-in : (o s : ℕ) (unknown : Bool) → misnamed o s unknown ≡ false → s < seatCount
 unfolding misnamed
-seat-in n o s x e = leb-false seatCount s (none-of _ e .1 .0)
+seat-in o s unknown e = leb-false seatCount s (none-of _ e .1 .0)
 
-module _ (t : Tables) (k : InOrder t) (o s x last : ℕ) where
-  pub refusal-fair : refusal t o s x last ≢ 3
-  unfolding refusal
-  refusal-fair =
-      by (misnamed (length (t .words)) o s x)
-      (λ e. rw (not-unsized t k, e) (unfold firstOf in omega arith))
-      (λ e. rw (undamaged (row (t .seats) s) (length (t .words)) (k .rows s (seat-in _ o s x e))) (not-third _ _ _))
+pub refusal-fair : (t : Tables) → InOrder t → (o s : ℕ) (unknown : Bool) (last : ℕ) → refusal t o s unknown last ≢ 3
+unfolding refusal rowRefusal
+refusal-fair t k o s unknown last =
+    by (misnamed o s unknown)
+    (λ e. rw (not-unsized t k, e) (omega arith))
+    (λ e. rw (not-unsized t k, e, undamaged (row (t .seats) s) (length (t .words)) (k .rows s (seat-in o s unknown e))) (not-first 2 _))
 
-  pub used-of : Fine t o s x last → Used (length (t .words)) (row (t .seats) s)
+module _ (t : Tables) (k : InOrder t) (o s last : ℕ) where
+  pub used-of : Fine t o s last → Used (length (t .words)) (row (t .seats) s)
   used-of f = k .rows s (f .seat-in) .in-use (f .used)
 
 seat-effect : (t : Tables) (c : Call) (s : ℕ) (f : Seen → Answer → Seen) (o : Outcome) → InOrder t → s < seatCount → ShowsAt c (o .answer) s f →
@@ -98,29 +97,29 @@ effect-of t k (Open o) =
     changes s (f .0) (λ x a. givenTo o) (record { seats = λ b. refl; plan = λ b. refl }) _
     (open-change t k o s (f .0) (f .1) (r .owner-in)) (open-within t k o s (f .0) (f .1) r) (open-tells t k o s (f .0) (f .1)))
 effect-of t k (Read o s x) =
-    either t (Read o s x) (refusal t o s x 1) (readIn t s x) (refusal-fair t k o s x 1)
-    (λ e. let f = fine t o s x 1 e in
+    either t (Read o s x) (recordRefusal t o s x working) (readIn t s x) (refusal-fair t k o s _ working)
+    (λ e. let f = fine t o s _ working e in
     let d : phase (row (t .seats) s) ≢ 0 = f .used in
     let p = f .phase-in in
     seat-effect t (Read o s x) s _ (readIn t s x) k (f .seat-in) (record { seats = λ b. refl; plan = λ b. refl })
-    (read-ok t s k (used-of t k o s x 1 f) (f .seat-in) (omega arith) x (f .item-in)))
+    (read-ok t s k (used-of t k o s working f) (f .seat-in) (omega arith) x (item-in t o s x working e)))
 effect-of t k (Write o s x v) =
-    either t (Write o s x v) (refusal t o s x 1) (writeIn t s x v) (refusal-fair t k o s x 1)
-    (λ e. let f = fine t o s x 1 e in
+    either t (Write o s x v) (recordRefusal t o s x working) (writeIn t s x v) (refusal-fair t k o s _ working)
+    (λ e. let f = fine t o s _ working e in
     let d : phase (row (t .seats) s) ≢ 0 = f .used in
     let p = f .phase-in in
     seat-effect t (Write o s x v) s _ (writeIn t s x v) k (f .seat-in) (record { seats = λ b. refl; plan = λ b. refl })
-    (write-ok t s k (used-of t k o s x 1 f) (f .seat-in) (omega arith) x v (f .item-in)))
+    (write-ok t s k (used-of t k o s working f) (f .seat-in) (omega arith) x v (item-in t o s x working e)))
 effect-of t k (Advance o s) =
-    either t (Advance o s) (refusal t o s 0 4) (advanceIn t s) (refusal-fair t k o s 0 4)
-    (λ e. let f = fine t o s 0 4 e in
+    either t (Advance o s) (seatRefusal t o s storing) (advanceIn t s) (refusal-fair t k o s false storing)
+    (λ e. let f = fine t o s false storing e in
     seat-effect t (Advance o s) s onAdvance (advanceIn t s) k (f .seat-in) (record { seats = λ b. refl; plan = λ b. refl })
-    (advance-ok t s (k .sized .rows) (f .seat-in) (used-of t k o s 0 4 f)))
+    (advance-ok t s (k .sized .rows) (f .seat-in) (used-of t k o s storing f)))
 effect-of t k (Abandon o s) =
-    either t (Abandon o s) (refusal t o s 0 3) (letGo t s (Dropped s)) (refusal-fair t k o s 0 3)
-    (λ e. let f = fine t o s 0 3 e in
+    either t (Abandon o s) (seatRefusal t o s checking) (letGo t s (Dropped s)) (refusal-fair t k o s false checking)
+    (λ e. let f = fine t o s false checking e in
     seat-effect t (Abandon o s) s onAbandon (letGo t s (Dropped s)) k (f .seat-in) (record { seats = λ b. refl; plan = λ b. refl })
-    (lets-go t s onAbandon (k .sized .rows) (f .seat-in) (used-of t k o s 0 3 f) (Dropped s) (drops s) (f .phase-in)))
+    (lets-go t s onAbandon (k .sized .rows) (f .seat-in) (used-of t k o s checking f) (Dropped s) (drops s) (f .phase-in)))
 
 -- and the tables are in order after it
 pub after-effect : (t : Tables) (c : Call) (o : Outcome) → InOrder t → Effect t c o → InOrder (o .tables)

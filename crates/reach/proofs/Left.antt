@@ -8,13 +8,13 @@ use borrow.Author.Tests.{eqb-true, eqb-false}
 use lib.Dec.{leb, ltb, eqb}
 use lib.ListN.{length, getD}
 use Rattle.clock.specs.Word.{top, isLocked}
-use Rattle.rules.specs.Layout.{mostReads, mostWrites, row, phase, position, reads, writes, writeItem}
+use Rattle.rules.specs.Layout.{mostReads, mostWrites, row, phase, position, reads, writes, writeItem, storing, checking, working}
 use Rattle.rules.specs.Tables.{Tables, Outcome, keep, unless}
 use Rattle.rules.specs.Answers.{dropped, refused, aborted, kind}
-use Rattle.rules.specs.Refusals.{refusal}
+use Rattle.rules.specs.Refusals.{refusal, seatRefusal, recordRefusal}
 use Rattle.rules.specs.Plan.{setupRefusal, setup, openRefusal, openSeat}
 use Rattle.rules.specs.Work.{readOf, writeOf, firstRead, readIn, read, writeIn, write}
-use Rattle.rules.specs.Advance.{heldLocks, letGo, lockStep, commitTime, timeStep, judged, passed, ruled, checkStep, sealStep, storeStep}
+use Rattle.rules.specs.Advance.{heldLocks, letGo, lockStep, commitTime, timeStep, judged, passed, ruled, checkStep, sealStep, storeStep, passedTo}
 use Rattle.rules.specs.Advance.{doneStep, lockPhase, checkPhase, storePhase, advanceIn, advance, abandon}
 use Rattle.rules.specs.Calls.{Call, Setup, Open, Read, Write, Advance, Abandon, step, history, told}
 use Rattle.rules.specs.declared.Answer.{Answer}
@@ -34,9 +34,9 @@ each-answered t [] = refl
 each-answered t (c ∷ cs) = let e = each-answered (step t c .tables) cs in omega arith
 
 -- LETTING GO, in phases 1 to 3
-lets-go : (t : Tables) (o s x last : ℕ) (a : Answer) → Fine t o s x last → phase (row (t .seats) s) ≤ 3 → LetGo t (letGo t s a .tables) s
+lets-go : (t : Tables) (o s last : ℕ) (a : Answer) → Fine t o s last → phase (row (t .seats) s) ≤ 3 → LetGo t (letGo t s a .tables) s
 unfolding letGo
-lets-go t o s x last a f p =
+lets-go t o s last a f p =
     let g : List ℕ = row (t .seats) s in
     let n : ℕ = heldLocks (row (t .seats) s) in
     let b = becomes-freed (t .seats) s (fine-row f) in
@@ -84,13 +84,13 @@ module _ (t : Tables) (c : Call) where
       cond-ind (Leaves t c) (ltb (writeOf g x) (writes g)) (λ _. plain (Noted x) _ refl refl)
       (λ _. cond-ind (Leaves t c) (leb mostWrites (writes g)) (λ _. refusing 9) (λ _. plain (Noted x) _ refl refl))
 
-module _ (t : Tables) (o s : ℕ) (f : Fine t o s 0 4) where
+module _ (t : Tables) (o s : ℕ) (f : Fine t o s storing) where
   abbrev Left : Outcome → Type 0
   Left z = Leaves t (Advance o s) z
 
   aborting : (n : ℕ) → phase (row (t .seats) s) ≤ 3 → Leaves t (Advance o s) (letGo t s (Aborted n))
   unfolding letGo
-  aborting n p = record { all = λ e. absurd (omega arith); gone = λ e. (o, s, refl, lets-go t o s 0 4 (Aborted n) f p) }
+  aborting n p = record { all = λ e. absurd (omega arith); gone = λ e. (o, s, refl, lets-go t o s storing (Aborted n) f p) }
 
   lock-leaves : phase (row (t .seats) s) ≤ 2 → Leaves t (Advance o s) (lockPhase t s)
   unfolding lockPhase lockStep timeStep
@@ -101,7 +101,7 @@ module _ (t : Tables) (o s : ℕ) (f : Fine t o s 0 4) where
       (λ _. cond-ind Left (ltb top (commitTime (t .words) g)) (λ _. aborting 24 (omega arith)) (λ _. plain t _ (Timed _) _ refl refl))
 
   ruled-leaves : phase (row (t .seats) s) ≡ 3 → (v : Verdict) → Leaves t (Advance o s) (ruled t s v)
-  unfolding ruled passed
+  unfolding ruled passed passedTo
   ruled-leaves p Passes = plain t _ (Checked _) _ refl refl
   ruled-leaves p Extends = plain t _ (Checked _) _ refl refl
   ruled-leaves p (Fails why) = aborting why (omega arith)
@@ -113,7 +113,7 @@ module _ (t : Tables) (o s : ℕ) (f : Fine t o s 0 4) where
       cond-ind Left (eqb (phase g) 1) (λ e. lock-leaves (let q = eqb-true (phase g) 1 e in omega arith))
       (λ _. cond-ind Left (eqb (phase g) 2) (λ e. lock-leaves (let q = eqb-true (phase g) 2 e in omega arith))
       (λ _. cond-ind Left (eqb (phase g) 3)
-      (λ e. cond-ind Left (ltb (position g) (reads g)) (λ _. ruled-leaves (eqb-true (phase g) 3 e) (judged (t .words) g))
+      (λ e. cond-ind Left (ltb (position g) (reads g)) (λ _. ruled-leaves (eqb-true (phase g) 3 e) (judged t s))
       (λ _. plain t _ (Sealed _) _ refl refl))
       (λ _. cond-ind Left (eqb (phase g) 4)
       (λ _. cond-ind Left (ltb (position g) (writes g)) (λ _. plain t _ (Stored _) _ refl refl) (λ _. plain t _ (Done _) _ refl refl))
@@ -123,10 +123,10 @@ leaves : (t : Tables) (c : Call) → Leaves t c (step t c)
 unfolding step setup openSeat read write advance abandon letGo
 leaves t (Setup start plan) = guarded t _ (setupRefusal t start plan) _ (λ _. plain t _ (Ready _) _ refl refl)
 leaves t (Open o) = guarded t _ (openRefusal t o) _ (λ _. plain t _ (Seat _) _ refl refl)
-leaves t (Read o s x) = guarded t _ (refusal t o s x 1) _ (λ _. read-leaves t _ s x)
-leaves t (Write o s x v) = guarded t _ (refusal t o s x 1) _ (λ _. write-leaves t _ s x v)
-leaves t (Advance o s) = guarded t _ (refusal t o s 0 4) _ (λ e. advance-leaves t o s (fine t o s 0 4 e))
-leaves t (Abandon o s) = guarded t _ (refusal t o s 0 3) _ (λ _. plain t _ (Dropped s) _ refl refl)
+leaves t (Read o s x) = guarded t _ (recordRefusal t o s x working) _ (λ _. read-leaves t _ s x)
+leaves t (Write o s x v) = guarded t _ (recordRefusal t o s x working) _ (λ _. write-leaves t _ s x v)
+leaves t (Advance o s) = guarded t _ (seatRefusal t o s storing) _ (λ e. advance-leaves t o s (fine t o s false storing e))
+leaves t (Abandon o s) = guarded t _ (seatRefusal t o s checking) _ (λ _. plain t _ (Dropped s) _ refl refl)
 
 -- A REFUSAL leaves every table as it was, and AN ABORT lets go
 pub refusal-leaves-all : RefusalLeavesAll
@@ -138,6 +138,6 @@ abort-lets-go t c = leaves t c .gone
 pub abandon-lets-go : AbandonLetsGo
 unfolding step abandon
 abandon-lets-go t o s =
-    cond-ind (λ (z : Outcome). kind (z .answer) ≡ dropped → LetGo t (z .tables) s) (eqb (refusal t o s 0 3) 0)
-    (λ q _. let f = fine t o s 0 3 (eqb-true _ _ q) in lets-go t o s 0 3 (Dropped s) f (f .phase-in))
+    cond-ind (λ (z : Outcome). kind (z .answer) ≡ dropped → LetGo t (z .tables) s) (eqb (seatRefusal t o s checking) 0)
+    (λ q _. let f = fine t o s false checking (eqb-true _ _ q) in lets-go t o s checking (Dropped s) f (f .phase-in))
     (λ _ z. absurd (omega arith))

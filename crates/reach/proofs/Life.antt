@@ -2,7 +2,7 @@
 use Prim.Native.Nat.{ℕ, _+_, _*_, _<_, _≤_}
 use mathlib.Core.Path.{_≡_, refl, sym, ap, _∙_}
 use mathlib.Core.Logic.{_≢_}
-use mathlib.Core.Bool.{true}
+use mathlib.Core.Bool.{true, Bool, false}
 use mathlib.Core.List.{List}
 use native.Mathlib.Omega.{arith}
 use borrow.Author.Tests.{eqb-true, eqb-false, eq-eqb, ne-eqb, ltb-true, ltb-false, lt-ltb, lt-leb}
@@ -11,10 +11,10 @@ use lib.ListN.{length, getD}
 use lib.Seq.{length-take-le}
 use Rattle.clock.specs.Word.{top, isLocked}
 use Rattle.rules.specs.Tests.{oneOf, firstOf}
-use Rattle.rules.specs.Layout.{owners, seatCount, positionAt, row, phase, owner, position, reads, writes, writeItem}
+use Rattle.rules.specs.Layout.{owners, seatCount, positionAt, row, phase, owner, position, reads, writes, writeItem, working, storing, checking}
 use Rattle.rules.specs.Tables.{Tables, Outcome, unless}
 use Rattle.rules.specs.Answers.{refused, kind}
-use Rattle.rules.specs.Refusals.{misnamed, foreign, refusal}
+use Rattle.rules.specs.Refusals.{misnamed, foreign, refusal, seatRefusal, rowRefusal}
 use Rattle.rules.specs.Work.{readIn, read, writeIn, write}
 use Rattle.rules.specs.Advance as A
 use Rattle.rules.specs.Advance.{letGo, lockStep, timeStep, commitTime, judged, ruled, checkStep, sealStep, storeStep, doneStep, lockPhase}
@@ -59,7 +59,7 @@ module _ (t : Tables) (s : ℕ) (u : Used (length (t .words)) (row (t .seats) s)
       rw e (by (ltb top (commitTime (t .words) g)) (λ y. rw y (says-aborted (omega arith) refl)) (λ y. rw y (says-timed (omega arith) refl))))
 
   ruled-kind : phase g ≡ 3 → position g < reads g → (v : Verdict) → Says (ruled t s v)
-  unfolding ruled A.passed letGo
+  unfolding ruled A.passed A.passedTo letGo
   ruled-kind p l Passes = let a = steps-three g p in says-checked (position g) l (omega arith) refl
   ruled-kind p l Extends = let a = steps-three g p in says-checked (position g) l (omega arith) refl
   ruled-kind p l (Fails n) = let a = steps-three g p in says-aborted (omega arith) refl
@@ -77,7 +77,7 @@ module _ (t : Tables) (s : ℕ) (u : Used (length (t .words)) (row (t .seats) s)
       let a = steps-three g p in
       let f = h .checking p in
       rw e3 (by (ltb (position g) (reads g))
-      (λ e. rw e (ruled-kind p (ltb-true _ _ e) (judged (t .words) g)))
+      (λ e. rw e (ruled-kind p (ltb-true _ _ e) (judged t s)))
       (λ e. let l = ltb-false (position g) (reads g) e in rw e (says-sealed (omega arith) refl))))
       (λ e3. let d1 : phase g ≢ 1 = eqb-false _ _ e1 in
       let d2 : phase g ≢ 2 = eqb-false _ _ e2 in
@@ -127,16 +127,17 @@ module _ (t : Tables) (z : Reached t) (s : ℕ) (low : s < seatCount) where
       NextKind (writeCount (seen z .seats s)) (readCount (seen z .seats s)) (advanceCount (seen z .seats s)) (kind (step t (Advance o s) .answer))
   unfolding step advance
   says o =
-      by (eqb (refusal t o s 0 4) 0)
-      (λ e d. let f = fine t o s 0 4 (eqb-true _ _ e) in
-      rw (e, ← writes-are t z s, ← reads-are t z s, ← advances-are) (advance-kind t s (used-of t k o s 0 4 f)))
+      by (eqb (seatRefusal t o s storing) 0)
+      (λ e d. let f = fine t o s false storing (eqb-true _ _ e) in
+      rw (e, ← writes-are t z s, ← reads-are t z s, ← advances-are) (advance-kind t s (used-of t k o s storing f)))
       (λ e d. absurd (d (rw e refl)))
 
   -- a call that names the seat is refused where the row is past the call's last phase
-  refused-past : (o x last : ℕ) (out : Outcome) → last < phase (row (t .seats) s) → kind (unless (refusal t o s x last) t out .answer) ≡ refused
-  refused-past o x last out h =
-      by (eqb (refusal t o s x last) 0)
-      (λ e. let f = fine t o s x last (eqb-true _ _ e) in let p = f .phase-in in absurd (omega arith))
+  refused-past : (o : ℕ) (unknown : Bool) (last : ℕ) (out : Outcome) → last < phase (row (t .seats) s) →
+      kind (unless (refusal t o s unknown last) t out .answer) ≡ refused
+  refused-past o unknown last out h =
+      by (eqb (refusal t o s unknown last) 0)
+      (λ e. let f = fine t o s unknown last (eqb-true _ _ e) in let p = f .phase-in in absurd (omega arith))
       (λ e. rw e refl)
 
   pub advanced-past : 1 ≤ advanceCount (seen z .seats s) → 1 < phase (row (t .seats) s)
@@ -152,16 +153,15 @@ module _ (t : Tables) (z : Reached t) (s : ℕ) (low : s < seatCount) where
       (λ y. let q = eqb-true (phase g) 1 y in let a = steps-early g (omega arith) in let b = k .rows s low .in-use d .head .working q in absurd (omega arith))
       (λ y. let q : phase g ≢ 1 = eqb-false _ _ y in omega arith))
 
-  five : phase (row (t .seats) s) ≡ 4 → refusal t (owner (row (t .seats) s)) s 0 3 ≡ 5
-  unfolding refusal misnamed foreign firstOf oneOf
+  five : phase (row (t .seats) s) ≡ 4 → seatRefusal t (owner (row (t .seats) s)) s checking ≡ 5
+  unfolding refusal rowRefusal misnamed foreign firstOf oneOf
   five p =
       let g : List ℕ = row (t .seats) s in
       let u = k .rows s low .in-use (omega arith) in
       let whose = lt-leb owners (owner g) (u .head .owner-in) in
-      let named = lt-leb (length (t .words)) 0 (k .sized .some) in
       let sound = undamaged g (length (t .words)) (k .rows s low) in
       let mine = eq-eqb (owner g) (owner g) refl in
-      rw (not-unsized t k, whose, lt-leb seatCount s low, named, sound, ne-eqb (phase g) 0 (omega arith), mine, lt-ltb 3 (phase g) (omega arith)) refl
+      rw (not-unsized t k, whose, lt-leb seatCount s low, sound, ne-eqb (phase g) 0 (omega arith), mine, lt-ltb 3 (phase g) (omega arith)) refl
 
   pub life : Life t s (seen z .seats s)
   unfolding step read write abandon
@@ -171,7 +171,7 @@ module _ (t : Tables) (z : Reached t) (s : ℕ) (low : s < seatCount) where
         in-order = λ o d n. kind-script (says o d) n;
         done-exactly = λ o d. kind-done (says o d);
         never-past = rw (← advances-are, ← writes-are t z s, ← reads-are t z s) script-fits;
-        settled = λ h o x v. (refused-past o x 1 (readIn t s x) (advanced-past h), refused-past o x 1 (writeIn t s x v) (advanced-past h));
+        settled = λ h o x v. (refused-past o _ working (readIn t s x) (advanced-past h), refused-past o _ working (writeIn t s x v) (advanced-past h));
         never-aborted = λ h o q.
             let p = sealed-four h in
             let a = steps-four (row (t .seats) s) p in
@@ -179,7 +179,7 @@ module _ (t : Tables) (z : Reached t) (s : ℕ) (low : s < seatCount) where
             let x = writes-are t z s in
             let y = reads-are t z s in
             kind-sealed (says o (λ e. omega arith)) (omega arith) q;
-        not-abandoned = λ h o. let p = sealed-four h in refused-past o 0 3 (letGo t s (Dropped s)) (omega arith);
+        not-abandoned = λ h o. let p = sealed-four h in refused-past o false checking (letGo t s (Dropped s)) (omega arith);
         abandon-five = λ h. rw (← ap (λ (x : Seen). x .holder) (sym (seat-is t z s)), five (sealed-four h)) refl;
       }
 

@@ -15,7 +15,8 @@ use Rattle.rules.specs.Layout.{keptWrite, writeItem, writeValue}
 use Rattle.rules.specs.Places.{length-row}
 use Rattle.rules.specs.Tables.{Tables, after}
 use Rattle.rules.specs.Answers.{locked, stored, kind}
-use Rattle.rules.specs.Advance.{moved, lockStep, commitTime, timeStep, verdict, checkItem, judged, stretched, passed, ruled, checkStep}
+use Rattle.rules.specs.Advance.{moved, lockStep, commitTime, timeStep, verdict, checkItem, judged, stretched, passed, ruled, checkStep, byWord, versionGone}
+use Rattle.rules.specs.Advance.{passedTo}
 use Rattle.rules.specs.Advance.{sealStep, effect, storeStep, doneStep, lockPhase, checkPhase, storePhase, advanceIn}
 use Rattle.rules.specs.declared.Answer.{Answer}
 use Rattle.rules.specs.declared.Answer.the-variants.{Locked, Timed, Checked, Sealed, Stored, Done, Dropped, Aborted}
@@ -53,14 +54,14 @@ unfolding onAdvance
 dones n = record { ends = λ x. refl; plain = λ e. omega arith; given = λ e. omega arith }
 
 -- a verdict that extends, extends a word whose write time is the kept one
-by-tests : (a b : Bool) (o : Verdict) → cond a Passes (cond (not b) (Fails 22) o) ≡ Extends → b ≡ true
+by-tests : (a b : Bool) (o : Verdict) → cond a Passes (cond (not b) (Fails versionGone) o) ≡ Extends → b ≡ true
 by-tests true b o e = absurd (let z : _≡_ {A = ℕ} 0 1 = cc in omega arith)
 by-tests false true o e = refl
 by-tests false false o e = absurd (let z : _≡_ {A = ℕ} 0 1 = cc in omega arith)
 
-extends-kept : (wrote upTo tc word : ℕ) (own : Bool) → verdict wrote upTo tc word own ≡ Extends → writeTime word ≡ wrote
-unfolding verdict
-extends-kept wrote upTo tc word own e = eqb-true (writeTime word) wrote (by-tests (leb tc upTo) (eqb (writeTime word) wrote) _ e)
+extends-kept : (keptW keptR time word : ℕ) (own : Bool) → verdict keptW keptR time word own ≡ Extends → writeTime word ≡ keptW
+unfolding verdict byWord
+extends-kept keptW keptR time word own e = eqb-true (writeTime word) keptW (by-tests (leb time keptR) (eqb (writeTime word) keptW) _ e)
 
 -- one Advance further, answered with a step's word
 record Further (g h : List ℕ) (k : ℕ) : Type 0 where
@@ -229,7 +230,7 @@ module _ (t : Tables) (s : ℕ) (size : length (t .seats) ≡ seatsLength) (smal
   -- PHASE 3
   pass-ok : phase g ≡ 3 → position g < reads g → (words : List ℕ) → length words ≡ length (t .words) →
       ((x : ℕ) → x < length (t .words) → lockBit words x ≡ lockBit (t .words) x) → StaysTimely (t .words) words → Step t s onAdvance (passed t s words)
-  unfolding passed onAdvance
+  unfolding passed passedTo onAdvance
   pass-ok p b words ew eb et =
       let q : ℕ = position g + 1 in
       let h : List ℕ = set g positionAt (position g + 1) in
@@ -249,7 +250,7 @@ module _ (t : Tables) (s : ℕ) (size : length (t .seats) ≡ seatsLength) (smal
       (not-four h (omega arith) (omega arith)) same refl
       (none-left h (omega arith) (omega arith)) refl)
 
-  ruled-ok : phase g ≡ 3 → position g < reads g → (v : Verdict) → judged (t .words) g ≡ v → Step t s onAdvance (ruled t s v)
+  ruled-ok : phase g ≡ 3 → position g < reads g → (v : Verdict) → judged t s ≡ v → Step t s onAdvance (ruled t s v)
   unfolding ruled judged stretched
   ruled-ok p b Passes e = pass-ok p b (t .words) refl (λ x h. refl) (λ x h le. le)
   ruled-ok p b Extends e =
@@ -360,7 +361,7 @@ module _ (t : Tables) (s : ℕ) (size : length (t .seats) ≡ seatsLength) (smal
       (λ e1. rw e1 (by (eqb (phase g) 2) (λ e2. rw e2 (early (let q = eqb-true (phase g) 2 e2 in omega arith)))
       (λ e2. rw e2 (by (eqb (phase g) 3)
       (λ e3. let p = eqb-true (phase g) 3 e3 in
-      rw e3 (by (ltb (position g) (reads g)) (λ e. rw e (ruled-ok p (ltb-true _ _ e) (judged (t .words) g) refl)) (λ e. rw e (seal-ok p (ltb-false _ _ e)))))
+      rw e3 (by (ltb (position g) (reads g)) (λ e. rw e (ruled-ok p (ltb-true _ _ e) (judged t s) refl)) (λ e. rw e (seal-ok p (ltb-false _ _ e)))))
       (λ e3. rw e3 (
       let d1 : phase g ≢ 1 = eqb-false _ _ e1 in
       let d2 : phase g ≢ 2 = eqb-false _ _ e2 in

@@ -2,22 +2,21 @@
 use Prim.Native.Nat.{ℕ, _<_, _≤_}
 use mathlib.Core.Path.{_≡_, refl, ap, _∙_}
 use mathlib.Core.Logic.{_≢_}
-use mathlib.Core.Bool.{false, cond, not}
+use mathlib.Core.Bool.{Bool, true, false, cond, not}
 use mathlib.Core.List.{List}
 use native.Mathlib.Omega.{arith}
 use borrow.Author.Tests.{eqb-true, eqb-false, ne-eqb, eq-eqb, leb-false, le-ltb, le-leb, lt-leb}
 use lib.Dec.{leb, eqb}
 use lib.ListN.{length, take}
-use Rattle.rules.specs.Tests.{firstOf}
 use Rattle.rules.specs.Layout.{owners, seatCount, mostRecords, seatsLength, positionAt, readsAt, writesAt, timeAt}
 use Rattle.rules.specs.Layout.{row, phase, owner, position, reads, writes, time, share, limit}
 use Rattle.rules.specs.Places.{length-row}
 use Rattle.rules.specs.Tables.{Tables, after}
 use Rattle.rules.specs.Refusals.{unsized}
-use Rattle.rules.specs.Plan.{badRow, held, claims, overLimit, unsound, crowded, openRefusal, isFree, freeSeat, opened}
+use Rattle.rules.specs.Plan.{badRow, held, claims, overLimit, unsound, crowded, openRefusal, isFree, freeSeat, opened, planRefusal, ownerRefusal}
 use Rattle.rules.specs.declared.Answer.the-variants.{Seat}
 use Rattle.rows.specs.Search.{none-any, first-hit}
-use Rattle.rows.specs.Fine.{first-none}
+use Rattle.rows.specs.Fine.{not-given}
 use Rattle.rows.specs.FreeSeat.{seat-found}
 use Rattle.rows.specs.Changed.{openedRow, opened-row}
 use Rattle.rows.specs.Becomes.{becomes-opened}
@@ -25,7 +24,7 @@ use Rattle.observer.specs.Observer.{givenTo}
 use Rattle.observer.proofs.Segments.{seg}
 use Rattle.observer.proofs.Entries.{readAt, writeAt}
 use Rattle.reach.specs.Life.{script}
-use Rattle.reach.proofs.Tests.{by, all-none, not-third}
+use Rattle.reach.proofs.Tests.{by, all-none}
 use Rattle.reach.proofs.Count.{one}
 use Rattle.reach.proofs.InOrder.{locks, WithinPlan, InOrder}
 use Rattle.reach.proofs.Named.{locks-none}
@@ -73,27 +72,40 @@ pub record MayOpen (t : Tables) (o : ℕ) : Type 0 where
   pub below : held (t .seats) o < limit (t .seats) o
   pub fair : share (t .seats) o ≤ held (t .seats) o → claims (t .seats) ≢ seatCount
 
+never-three : (a b d : Bool) → _≢_ {A = ℕ} (cond a 2 (cond b 6 (cond d 7 0))) 3
+never-three true b d = omega arith
+never-three false true d = omega arith
+never-three false false true = omega arith
+never-three false false false = omega arith
+
 module _ (t : Tables) (k : InOrder t) (o : ℕ) where
   pub open-fair : openRefusal t o ≢ 3
-  unfolding openRefusal
-  open-fair = rw (not-unsound t k) (not-third _ _ _)
+  unfolding openRefusal planRefusal ownerRefusal
+  open-fair =
+      rw (not-unsized t k, not-unsound t k)
+      (never-three (leb owners o) (leb (limit (t .seats) o) (held (t .seats) o)) (crowded (t .seats) o))
 
   pub open-refusal : o < owners → openRefusal t o ≡ cond (leb (limit (t .seats) o) (held (t .seats) o)) 6 (cond (crowded (t .seats) o) 7 0)
-  unfolding openRefusal firstOf
+  unfolding openRefusal planRefusal ownerRefusal
   open-refusal h = rw (not-unsized t k, lt-leb owners o h, not-unsound t k) refl
 
   pub open-no-owner : owners ≤ o → openRefusal t o ≡ 2
-  unfolding openRefusal firstOf
+  unfolding openRefusal
   open-no-owner h = rw (not-unsized t k, le-leb owners o h) refl
 
   pub may-open : openRefusal t o ≡ 0 → MayOpen t o
-  unfolding openRefusal crowded
+  unfolding openRefusal planRefusal ownerRefusal crowded
   may-open e =
-      let r = first-none 0 _ e in
+      let seats : List ℕ = t .seats in
+      let sized = not-given (unsized (length (t .values)) (length (t .words)) (length seats)) 0 e in
+      let owner-in = not-given (leb owners o) 1 (sized .1) in
+      let sound = not-given (unsound seats) 2 (owner-in .1) in
+      let below = not-given (leb (limit seats o) (held seats o)) 5 (sound .1) in
+      let uncrowded = not-given (crowded seats o) 6 {n = 0} (below .1) in
       record {
-        owner-in = leb-false owners o (r .1 .0);
-        below = leb-false (limit (t .seats) o) (held (t .seats) o) (r .1 .1 .1 .1 .1 .0);
-        fair = λ h. eqb-false (claims (t .seats)) seatCount (rw (le-leb _ _ h) at (r .1 .1 .1 .1 .1 .1 .0));
+        owner-in = leb-false owners o (owner-in .0);
+        below = leb-false (limit seats o) (held seats o) (below .0);
+        fair = λ h. eqb-false (claims seats) seatCount (rw (le-leb _ _ h) at (uncrowded .0));
       }
 
   pub free-seat : openRefusal t o ≡ 0 → (freeSeat (t .seats) < seatCount) × (phase (row (t .seats) (freeSeat (t .seats))) ≡ 0)

@@ -9,9 +9,9 @@ use borrow.Author.Tests.{eqb-true, eqb-false, eq-eqb, ne-eqb, ltb-true, ltb-fals
 use lib.Dec.{eqb, ltb}
 use lib.ListN.{length, take, replicate, length-append, length-replicate}
 use lib.Seq.{take-nil}
-use Rattle.rules.specs.Layout.{owners, seatCount, row, phase, owner, position, writes}
+use Rattle.rules.specs.Layout.{owners, seatCount, row, phase, owner, position, writes, storing, checking, working}
 use Rattle.rules.specs.Tables.{Tables, Outcome, keep, unless}
-use Rattle.rules.specs.Refusals.{misnamed, refusal}
+use Rattle.rules.specs.Refusals.{misnamed, refusal, seatRefusal, recordRefusal}
 use Rattle.rules.specs.Plan.{setupRefusal, setup, openRefusal, freeSeat, openSeat}
 use Rattle.rules.specs.Work.{readIn, read, writeIn, write}
 use Rattle.rules.specs.Advance.{letGo, storeStep, doneStep, storePhase, advanceIn, advance, abandon}
@@ -32,13 +32,13 @@ use Rattle.reach.proofs.InOrder.{InOrder}
 use Rattle.reach.proofs.Rows.{steps-four}
 use Rattle.reach.proofs.Script.{kind-given, kind-sealing}
 use Rattle.reach.proofs.Opens.{free-seat}
-use Rattle.reach.proofs.Reached.{records-told, reached-in-order}
+use Rattle.reach.proofs.Reached.{reached-in-order}
 use Rattle.reach.proofs.Observed.{seat-is, writes-are, reads-are}
 use Rattle.reach.proofs.Life.{advance-kind, advances-are, sealed-four, says}
 use Rattle.reach.proofs.Refusals.{refusal-is, late-leave, never-late}
 
 -- an Advance that is not refused, and one of a sealed seat
-fine-step : (t : Tables) (o s : ℕ) → refusal t o s 0 4 ≡ 0 → step t (Advance o s) ≡ advanceIn t s
+fine-step : (t : Tables) (o s : ℕ) → seatRefusal t o s storing ≡ 0 → step t (Advance o s) ≡ advanceIn t s
 unfolding step advance
 fine-step t o s e = rw e refl
 
@@ -51,11 +51,11 @@ store-step t s p =
 unless-refused : (why : ℕ) (t : Tables) (o : Outcome) → why ≢ 0 → unless why t o ≡ keep t (Refused why)
 unless-refused why t o d = rw (ne-eqb why 0 d) refl
 
-not-refused : (t : Tables) (o s : ℕ) → kind (advanced t o s) ≢ refused → Fine t o s 0 4
+not-refused : (t : Tables) (o s : ℕ) → kind (advanced t o s) ≢ refused → Fine t o s storing
 unfolding step advance
 not-refused t o s d =
-    let why : ℕ = refusal t o s 0 4 in
-    fine t o s 0 4
+    let why : ℕ = seatRefusal t o s storing in
+    fine t o s false storing
     (by (eqb why 0) (λ e. eqb-true why 0 e)
     (λ e. absurd (d (ap (λ (x : Outcome). kind (x .answer)) (unless-refused why t (advanceIn t s) (eqb-false why 0 e))))))
 
@@ -74,21 +74,19 @@ module _ (t : Tables) (z : Reached t) (s : ℕ) (low : s < seatCount) where
   open-used h = eqb-false (phase g) 0 (not-true _ (ap (λ (x : Seen). x .isOpen) (sym (seat-is t z s)) ∙ h))
 
   -- it is refused for nothing but coming too late
-  holder-due : (late : Bool) → seen z .seats s .isOpen ≡ true → seatDue (records z) (seen z) (seen z .seats s .holder) s 0 late ≡ cond late 5 0
+  holder-due : (late : Bool) → seen z .seats s .isOpen ≡ true → seatDue (records z) (seen z) (seen z .seats s .holder) s false late ≡ cond late 5 0
   unfolding seatDue misnamed
   holder-due late h =
-      let some = k .sized .some in
-      let told = records-told t z in
       let own = k .rows s low .in-use (open-used h) .head .owner-in in
-      let named : misnamed (records z) (seen z .seats s .holder) s 0 ≡ false =
-      all-none _ (lt-leb owners (seen z .seats s .holder) (rw holder-is own), (lt-leb seatCount s low, (lt-leb (records z) 0 (omega arith), tt))) in
+      let named : misnamed (seen z .seats s .holder) s false ≡ false =
+      all-none _ (lt-leb owners (seen z .seats s .holder) (rw holder-is own), (lt-leb seatCount s low, (refl, tt))) in
       rw (named, h, eq-eqb (seen z .seats s .holder) (seen z .seats s .holder) refl) refl
 
-  advance-fine : seen z .seats s .isOpen ≡ true → refusal t (seen z .seats s .holder) s 0 4 ≡ 0
-  advance-fine h = refusal-is t z (seen z .seats s .holder) s 0 4 false (never-late t z s) ∙ holder-due false h
+  advance-fine : seen z .seats s .isOpen ≡ true → seatRefusal t (seen z .seats s .holder) s storing ≡ 0
+  advance-fine h = refusal-is t z (seen z .seats s .holder) s false storing false (never-late t z s) ∙ holder-due false h
 
-  abandon-fine : seen z .seats s .isOpen ≡ true → seen z .seats s .isSealed ≡ false → refusal t (seen z .seats s .holder) s 0 3 ≡ 0
-  abandon-fine h n = refusal-is t z (seen z .seats s .holder) s 0 3 false (λ l. late-leave t z s l ∙ n) ∙ holder-due false h
+  abandon-fine : seen z .seats s .isOpen ≡ true → seen z .seats s .isSealed ≡ false → seatRefusal t (seen z .seats s .holder) s checking ≡ 0
+  abandon-fine h n = refusal-is t z (seen z .seats s .holder) s false checking false (λ l. late-leave t z s l ∙ n) ∙ holder-due false h
 
   -- the two answers to an Advance of a sealed seat by its holder
   data Goes (a : Answer) : Type 0 where
@@ -179,11 +177,11 @@ module _ (t : Tables) (z : Reached t) (s : ℕ) (low : s < seatCount) (h : seen 
   four = sealed-four t z s low h
 
   -- a call that names it is refused, but for an Advance by its holder
-  too-late : (o x last : ℕ) → last < 4 → refusal t o s x last ≢ 0
-  too-late o x last l e = let p = four in let a = fine t o s x last e .phase-in in omega arith
+  too-late : (o : ℕ) (unknown : Bool) (last : ℕ) → last < storing → refusal t o s unknown last ≢ 0
+  too-late o unknown last l e = let p = four in let a = fine t o s unknown last e .phase-in in omega arith
 
-  no-holder : (o : ℕ) → o ≢ seen z .seats s .holder → refusal t o s 0 4 ≢ 0
-  no-holder o d e = d (sym (fine t o s 0 4 e .own) ∙ sym (holder-is t z s low))
+  no-holder : (o : ℕ) → o ≢ seen z .seats s .holder → seatRefusal t o s storing ≢ 0
+  no-holder o d e = d (sym (fine t o s false storing e .own) ∙ sym (holder-is t z s low))
 
   -- so a call that is neither its holder's Advance nor a Setup answered ready tells nothing new of it
   abbrev Still : Call → Type 0
@@ -209,19 +207,19 @@ module _ (t : Tables) (z : Reached t) (s : ℕ) (low : s < seatCount) (h : seen 
       rw e (changed-other (freeSeat (t .seats)) (givenTo o) (seen z .seats) s ne))
       (λ e. refused-still (Open o) (openRefusal t o) (unless-refused (openRefusal t o) t _ (eqb-false _ 0 e)))
   still (Read o j x) f d =
-      seat-still (Read o j x) j (refusal t o j x 1) (changed-other j _ (seen z .seats) s)
-      (λ e. unless-refused (refusal t o j x 1) t (readIn t j x) (rw (← e) (too-late o x 1 (omega arith))))
+      seat-still (Read o j x) j (recordRefusal t o j x working) (changed-other j _ (seen z .seats) s)
+      (λ e. unless-refused (recordRefusal t o j x working) t (readIn t j x) (rw (← e) (too-late o _ working (omega arith))))
   still (Write o j x v) f d =
-      seat-still (Write o j x v) j (refusal t o j x 1) (changed-other j _ (seen z .seats) s)
-      (λ e. unless-refused (refusal t o j x 1) t (writeIn t j x v) (rw (← e) (too-late o x 1 (omega arith))))
+      seat-still (Write o j x v) j (recordRefusal t o j x working) (changed-other j _ (seen z .seats) s)
+      (λ e. unless-refused (recordRefusal t o j x working) t (writeIn t j x v) (rw (← e) (too-late o _ working (omega arith))))
   still (Advance o j) f d =
-      seat-still (Advance o j) j (refusal t o j 0 4) (changed-other j _ (seen z .seats) s)
-      (λ e. unless-refused (refusal t o j 0 4) t (advanceIn t j)
+      seat-still (Advance o j) j (seatRefusal t o j storing) (changed-other j _ (seen z .seats) s)
+      (λ e. unless-refused (seatRefusal t o j storing) t (advanceIn t j)
       (rw (← e) (no-holder o
       (λ q. let y : _≡_ {A = Bool} true false = rw (eq-eqb o (seen z .seats s .holder) q, eq-eqb j s (sym e)) at f in absurd (true≢false y)))))
   still (Abandon o j) f d =
-      seat-still (Abandon o j) j (refusal t o j 0 3) (changed-other j _ (seen z .seats) s)
-      (λ e. unless-refused (refusal t o j 0 3) t (letGo t j (Dropped j)) (rw (← e) (too-late o 0 3 (omega arith))))
+      seat-still (Abandon o j) j (seatRefusal t o j checking) (changed-other j _ (seen z .seats) s)
+      (λ e. unless-refused (seatRefusal t o j checking) t (letGo t j (Dropped j)) (rw (← e) (too-late o false checking (omega arith))))
 
 -- the call that is its holder's Advance
 its-advance : (o s : ℕ) (c : Call) → isAdvance o s c ≡ true → c ≡ Advance o s

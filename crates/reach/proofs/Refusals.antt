@@ -10,9 +10,9 @@ use lib.Dec.{eqb, ltb, leb}
 use lib.ListN.{length, getD}
 use Rattle.clock.specs.Word.{isLocked}
 use Rattle.rules.specs.Tests.{any, count, oneOf, firstOf}
-use Rattle.rules.specs.Layout.{owners, seatCount, mostReads, mostWrites, shareAt, limitAt, row, phase, owner, reads, writes, share}
+use Rattle.rules.specs.Layout.{owners, seatCount, mostReads, mostWrites, shareAt, limitAt, row, phase, owner, reads, writes, share, storing, checking, working}
 use Rattle.rules.specs.Tables.{Tables, Outcome, unless}
-use Rattle.rules.specs.Refusals.{misnamed, foreign, refusal}
+use Rattle.rules.specs.Refusals.{misnamed, foreign, refusal, seatRefusal, rowRefusal, recordRefusal}
 use Rattle.rules.specs.Plan.{setupRefusal, setup, claim, claims, crowded, openRefusal, openSeat}
 use Rattle.rules.specs.Work.{readOf, writeOf, firstRead, readIn, read, writeIn, write}
 use Rattle.rules.specs.Advance.{letGo, advanceIn, advance, abandon}
@@ -21,12 +21,12 @@ use Rattle.rules.specs.Calls.{Call, Setup, Open, Read, Write, Advance, Abandon,
 use Rattle.rules.specs.declared.Answer.{Answer}
 use Rattle.rules.specs.declared.Answer.the-variants.{Refused, Dropped}
 use Rattle.rows.specs.Search.{none-any}
-use Rattle.rows.specs.Fine.{fine}
+use Rattle.rows.specs.Fine.{fine, item-in}
 use Rattle.observer.specs.Observer.{Seen}
 use Rattle.observer.proofs.Shows.{sees-write, sees-known}
 use Rattle.reach.specs.Reached.{Reached, records, seen}
 use Rattle.reach.specs.Counts.{advanceCount, isOf, seatsOf}
-use Rattle.reach.specs.Refusals.{orElse, claimed, isHeld, seatDue, readDue, writeDue, openDue, due, EveryRefusal}
+use Rattle.reach.specs.Refusals.{orElse, claimed, isHeld, seatDue, readDue, writeDue, openDue, due, EveryRefusal, hasAdvanced}
 use Rattle.reach.proofs.Tests.{by, same-test, some-any}
 use Rattle.reach.proofs.Count.{one, sum-same, count-has, count-some}
 use Rattle.reach.proofs.InOrder.{locks, stepsTaken, InOrder}
@@ -93,13 +93,13 @@ module _ (t : Tables) (z : Reached t) where
   k = reached-in-order t z
 
   -- A CALL THAT NAMES A SEAT
-  pub refusal-is : (o s x last : ℕ) (late : Bool) → (s < seatCount → ltb last (phase (row (t .seats) s)) ≡ late) →
-      refusal t o s x last ≡ seatDue (records z) (seen z) o s x late
-  unfolding refusal firstOf seatDue
-  refusal-is o s x last late h =
-      rw (not-unsized t k, ← records-told t z)
-      (by (misnamed (length (t .words)) o s x) (λ e. rw e refl)
-      (λ e. let low = seat-in _ o s x e in
+  pub refusal-is : (o s : ℕ) (unknown : Bool) (last : ℕ) (late : Bool) → (s < seatCount → ltb last (phase (row (t .seats) s)) ≡ late) →
+      refusal t o s unknown last ≡ seatDue (records z) (seen z) o s unknown late
+  unfolding refusal rowRefusal firstOf seatDue
+  refusal-is o s unknown last late h =
+      rw (not-unsized t k)
+      (by (misnamed o s unknown) (λ e. rw e refl)
+      (λ e. let low = seat-in o s unknown e in
       let sound = undamaged (row (t .seats) s) (length (t .words)) (k .rows s low) in
       rw (e, sound, foreign-is (row (t .seats) s) o, h low, seat-is t z s) refl))
 
@@ -183,13 +183,20 @@ module _ (t : Tables) (z : Reached t) where
   setup-is start plan = rw (not-unsized t k) refl
 
   -- ADVANCE AND ABANDON
-  advance-is : (o s : ℕ) → refusal t o s 0 4 ≡ due (records z) (seen z) (Advance o s)
+  advance-is : (o s : ℕ) → seatRefusal t o s storing ≡ due (records z) (seen z) (Advance o s)
   unfolding due
-  advance-is o s = refusal-is o s 0 4 _ (never-late s)
+  advance-is o s = refusal-is o s false storing _ (never-late s)
 
-  abandon-is : (o s : ℕ) → refusal t o s 0 3 ≡ due (records z) (seen z) (Abandon o s)
+  abandon-is : (o s : ℕ) → seatRefusal t o s checking ≡ due (records z) (seen z) (Abandon o s)
   unfolding due
-  abandon-is o s = refusal-is o s 0 3 _ (late-leave s)
+  abandon-is o s = refusal-is o s false checking _ (late-leave s)
+
+  -- READ AND WRITE, before what they look at themselves
+  record-is : (o s x : ℕ) →
+      recordRefusal t o s x working ≡ seatDue (records z) (seen z) o s (leb (records z) x) (hasAdvanced (records z) (seen z) s)
+  record-is o s x =
+      refusal-is o s (leb (length (t .words)) x) working _ (late-work s)
+      ∙ ap (λ (n : ℕ). seatDue (records z) (seen z) o s (leb n x) (hasAdvanced (records z) (seen z) s)) (records-told t z)
 
   -- ANY CALL
   pub exact : (c : Call) → Exactly (step t c .answer) (due (records z) (seen z) c)
@@ -197,18 +204,18 @@ module _ (t : Tables) (z : Reached t) where
   exact (Setup start plan) = of-due (setup-is start plan) (guarded-only (setupRefusal t start plan) t _ (λ e q. omega arith))
   exact (Open o) = of-due (open-is o) (guarded-only (openRefusal t o) t _ (λ e q. omega arith))
   exact (Read o s x) =
-      of-due (ap (λ (n : ℕ). orElse n (readDue (records z) (seen z) s x)) (refusal-is o s x 1 _ (late-work s)))
-      (guarded (refusal t o s x 1) _ t (readIn t s x) (λ e. read-exact s x (fine t o s x 1 e .item-in)))
+      of-due (ap (λ (n : ℕ). orElse n (readDue (records z) (seen z) s x)) (record-is o s x))
+      (guarded (recordRefusal t o s x working) _ t (readIn t s x) (λ e. read-exact s x (item-in t o s x working e)))
   exact (Write o s x v) =
-      of-due (ap (λ (n : ℕ). orElse n (writeDue (records z) (seen z) s x)) (refusal-is o s x 1 _ (late-work s)))
-      (guarded (refusal t o s x 1) _ t (writeIn t s x v) (λ e. write-exact s x v))
+      of-due (ap (λ (n : ℕ). orElse n (writeDue (records z) (seen z) s x)) (record-is o s x))
+      (guarded (recordRefusal t o s x working) _ t (writeIn t s x v) (λ e. write-exact s x v))
   exact (Advance o s) =
       of-due (advance-is o s)
-      (guarded-only (refusal t o s 0 4) t (advanceIn t s)
-      (λ e. kind-given (advance-kind t s (used-of t k o s 0 4 (fine t o s 0 4 e)))))
+      (guarded-only (seatRefusal t o s storing) t (advanceIn t s)
+      (λ e. kind-given (advance-kind t s (used-of t k o s storing (fine t o s false storing e)))))
   exact (Abandon o s) =
       of-due (abandon-is o s)
-      (guarded-only (refusal t o s 0 3) t (letGo t s (Dropped s)) (λ e q. omega arith))
+      (guarded-only (seatRefusal t o s checking) t (letGo t s (Dropped s)) (λ e q. omega arith))
 
 -- EVERY REFUSAL, EXACTLY WHEN IT IS DUE
 pub every-refusal : (t : Tables) → EveryRefusal t

@@ -8,9 +8,9 @@ use native.Mathlib.Omega.{arith}
 use borrow.Author.Tests.{le-leb, lt-leb, leb-true, eqb-true, eqb-false, eq-eqb, ne-eqb, le-ltb}
 use lib.Dec.{leb, ltb, eqb}
 use Rattle.clock.specs.Word.{top}
-use Rattle.rules.specs.Layout.{owners, mostReads, mostWrites, phaseAt, ownerAt, readItemAt, keptWriteAt, keptReadAt, writeItemAt, phase}
+use Rattle.rules.specs.Layout.{owners, mostReads, mostWrites, phaseAt, ownerAt, readItemAt, keptWriteAt, keptReadAt, writeItemAt, phase, storing}
 use Rattle.rules.specs.Layout.{owner, position, reads, writes, time, readItem, keptWrite, writeItem}
-use Rattle.rules.specs.Refusals.{misplaced, late, badRead, badWrite, damaged}
+use Rattle.rules.specs.Refusals.{misplaced, late, badRead, badWrite, damaged, badHead, badEntry}
 use Rattle.rules.specs.Advance.{heldLocks}
 use Rattle.rows.specs.Search.{none-any}
 use Rattle.rows.specs.Changed.{Nudged}
@@ -94,7 +94,7 @@ unfolding late
 good-time g h = only-where (leb 3 (phase g)) (ltb top (time g)) (λ e. le-ltb top (time g) (h .timely))
 
 pub undamaged : (g : List ℕ) (n : ℕ) → Row n g → damaged g n ≡ false
-unfolding damaged
+unfolding damaged badHead badEntry
 undamaged g n r =
     by (eqb (phase g) 0) (λ e. rw e refl)
     (λ e. let u = r .in-use (eqb-false _ _ e) in
@@ -102,28 +102,17 @@ undamaged g n r =
     let k = u .entries in
     let reads-good = none-any (badRead g n) (reads g) (good-read g n u) in
     let writes-good = none-any (badWrite g n) (writes g) (good-write g n u) in
-    rw e (all-none _ (
-      le-ltb 4 (phase g) (h .phase-in),
+    let head = all-none _ (
+      le-ltb storing (phase g) (h .phase-in),
       (
         lt-leb owners (owner g) (h .owner-in),
         (
           le-ltb mostReads (reads g) (k .reads-in),
-          (
-            le-ltb mostWrites (writes g) (k .writes-in),
-            (
-              placed-well g h,
-              (
-                good-time g h,
-                (
-                  reads-good,
-                  (writes-good, tt),
-                ),
-              ),
-            ),
-          ),
+          (le-ltb mostWrites (writes g) (k .writes-in), (placed-well g h, (good-time g h, tt))),
         ),
       ),
-    )))
+    ) in
+    rw e (all-none _ (head, (all-none _ (reads-good, (writes-good, tt)), tt))))
 
 -- HOW FAR locks and Advances go, by phase
 module _ (g : List ℕ) where

@@ -52,11 +52,9 @@ firstOf-not k m (true ∷ bs) p h = omega arith
 firstOf-not k m (false ∷ bs) p h = firstOf-not (suc k) m bs p (omega arith)
 
 -- where the third test does not hold, 3 is not the number
-pub not-third : (a b : Bool) (bs : List Bool) → firstOf 1 (a ∷ b ∷ false ∷ bs) ≢ 3
+pub not-first : (n : ℕ) (bs : List Bool) → firstOf (suc n) (false ∷ bs) ≢ suc n
 unfolding firstOf
-not-third true b bs = omega arith
-not-third false true bs = omega arith
-not-third false false bs = firstOf-not 4 3 bs (omega arith) (omega arith)
+not-first n bs = firstOf-not (suc (suc n)) (suc n) bs (omega arith) (omega arith)
 
 -- THE SEARCH
 pub some-any : (p : ℕ → Bool) (n i : ℕ) → i < n → p i ≡ true → any p n ≡ true

@@ -30,10 +30,10 @@ module _ (n : ℕ) (b : Observer) where
   abbrev pub isHeld : ℕ → Bool
   isHeld x = any (λ j. b .seats j .locked x) seatCount
 
-  -- a call that names a seat and a record: 2, a number out of range; 4, the seat is not that owner's; 5, it comes too late
-  unfoldable pub seatDue : ℕ → ℕ → ℕ → Bool → ℕ
-  seatDue o s x late =
-      cond (misnamed n o s x) 2
+  -- a call that names a seat: 2, a number out of range, be it the record's (`unknown`); 4, the seat is not that owner's; 5, it comes too late
+  unfoldable pub seatDue : ℕ → ℕ → Bool → Bool → ℕ
+  seatDue o s unknown late =
+      cond (misnamed o s unknown) 2
       (cond (not (isOf o (b .seats s))) 4
       (cond late 5 0))
 
@@ -63,10 +63,10 @@ module _ (n : ℕ) (b : Observer) where
   unfoldable pub due : Call → ℕ
   due (Setup start plan) = cond (ltb top start) 2 (cond (badPlan plan) 11 0)
   due (Open o) = openDue o
-  due (Read o s x) = orElse (seatDue o s x (hasAdvanced s)) (readDue s x)
-  due (Write o s x value) = orElse (seatDue o s x (hasAdvanced s)) (writeDue s x)
-  due (Advance o s) = seatDue o s 0 false
-  due (Abandon o s) = seatDue o s 0 (b .seats s .isSealed)
+  due (Read o s x) = orElse (seatDue o s (leb n x) (hasAdvanced s)) (readDue s x)
+  due (Write o s x value) = orElse (seatDue o s (leb n x) (hasAdvanced s)) (writeDue s x)
+  due (Advance o s) = seatDue o s false false
+  due (Abandon o s) = seatDue o s false (b .seats s .isSealed)
 
 -- a call is refused m exactly where m is due; so no call is refused for anything else
 abbrev pub EveryRefusal : Tables → Type 0

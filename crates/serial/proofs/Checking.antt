@@ -13,7 +13,8 @@ use Rattle.clock.specs.Laws.{write≤read, extended-is, extended-grows}
 use Rattle.rules.specs.Layout.{positionAt, row, put, phase, position, reads, writes, time, readItem}
 use Rattle.rules.specs.Tables.{Tables, tables}
 use Rattle.rules.specs.Work.{writeNames, writeOf}
-use Rattle.rules.specs.Advance.{moved, checkItem, verdict, judged, stretched, passed, ruled, checkStep, sealStep, checkPhase}
+use Rattle.rules.specs.Advance.{moved, checkItem, verdict, judged, stretched, passed, ruled, checkStep, sealStep, checkPhase, isOwn, byWord, isBlocked}
+use Rattle.rules.specs.Advance.{passedTo}
 use Rattle.rules.specs.Calls.{Advance}
 use Rattle.rules.specs.declared.Answer.the-variants.{Checked, Sealed}
 use Rattle.rules.specs.declared.Verdict.{Verdict}
@@ -36,7 +37,7 @@ use Rattle.serial.proofs.View.{entryAt, first-reads-are, seatOf, view, 
 use Rattle.serial.proofs.Agree.{WordShows, SeenOk, Mirrored, stampAt, StaysMirrored, words-show-set, sized-same, seen-nudged, agree-others, agree-seeing}
 use Rattle.serial.proofs.Release.{abort-ok}
 
-module _ (opening : Values) (t : Tables) (b : Observer) (now : Mirrored opening t b) (o s last : ℕ) (fi : Fine t o s 0 last)
+module _ (opening : Values) (t : Tables) (b : Observer) (now : Mirrored opening t b) (o s last : ℕ) (fi : Fine t o s last)
     (three : phase (row (t .seats) s) ≡ 3) where
   abbrev g : List ℕ
   g = row (t .seats) s
@@ -149,8 +150,8 @@ module _ (opening : Values) (t : Tables) (b : Observer) (now : Mirrored opening 
     unblocked false a h = refl
     unblocked true a h = sym (le-leb (readTime word) (time g) (omega arith)) ∙ a
 
-    check-ok : StaysMirrored opening b (Advance o s) (ruled t s (judged (t .words) g))
-    unfolding ruled judged verdict passed observe onAdvance
+    check-ok : StaysMirrored opening b (Advance o s) (ruled t s (judged t s))
+    unfolding ruled judged isOwn verdict byWord isBlocked passed passedTo observe onAdvance
     check-ok =
         cond-ind Q (leb (time g) (e .upTo)) (λ a. pass-mirrored (spanned (omega (arith, keyed, leb-true (time g) (e .upTo) a))))
         (λ _. cond-ind Q (not (eqb (writeTime word) (e .wrote))) (λ _. abort-ok opening t b now o s last fi 22 (omega arith))

@@ -30,7 +30,7 @@ use Rattle.serial.proofs.View.{entryAt, readEntries, seatOf, view-early
 use Rattle.serial.proofs.Agree.{WordShows, Mirrored, StaysMirrored, words-show-set, seen-nudged, agree-seeing}
 use Rattle.serial.proofs.Release.{lock-shows, abort-ok}
 
-module _ (opening : Values) (t : Tables) (b : Observer) (now : Mirrored opening t b) (o s last : ℕ) (fi : Fine t o s 0 last)
+module _ (opening : Values) (t : Tables) (b : Observer) (now : Mirrored opening t b) (o s last : ℕ) (fi : Fine t o s last)
     (phase12 : phase (row (t .seats) s) ≤ 2) where
   abbrev g : List ℕ
   g = row (t .seats) s

@@ -103,7 +103,7 @@ gone opening t b now s n rs σ inv shown o other e known size =
     }
 
 -- LET GO, in phases 1 to 3
-module _ (opening : Values) (t : Tables) (b : Observer) (now : Mirrored opening t b) (o s last : ℕ) (fi : Fine t o s 0 last) where
+module _ (opening : Values) (t : Tables) (b : Observer) (now : Mirrored opening t b) (o s last : ℕ) (fi : Fine t o s last) where
   abbrev g : List ℕ
   g = row (t .seats) s
 

@@ -28,7 +28,7 @@ use Rattle.observer.proofs.Segments.{seg, seg-next, seg-end}
 use Rattle.serial.proofs.View.{seatOf, view-storing, nudged-view}
 use Rattle.serial.proofs.Agree.{WordShows, SeenOk, Mirrored, stampAt, StaysMirrored, words-show-set, seen-nudged, agree-seeing}
 
-module _ (opening : Values) (t : Tables) (b : Observer) (now : Mirrored opening t b) (o s last : ℕ) (fi : Fine t o s 0 last)
+module _ (opening : Values) (t : Tables) (b : Observer) (now : Mirrored opening t b) (o s last : ℕ) (fi : Fine t o s last)
     (four : phase (row (t .seats) s) ≡ 4) where
   abbrev g : List ℕ
   g = row (t .seats) s

@@ -2,7 +2,7 @@
 use Prim.Native.Nat.{ℕ, zero, suc, _-_, _<_}
 use mathlib.Core.Path.{_≡_, refl, sym, ap, _∙_}
 use mathlib.Core.Logic.{⊎-elim}
-use mathlib.Core.Bool.{true, cond}
+use mathlib.Core.Bool.{true, cond, false}
 use mathlib.Core.List.{List, [], _∷_, List·Memᴰ as In, List·Memᴰ·head as here, List·Memᴰ·tail as there, List·Memᴰ·cases-cons as uncons}
 use mathlib.Core.List.{List·Memᴰ·not-nil as not-nil}
 use native.Mathlib.Omega.{arith}
@@ -12,10 +12,10 @@ use lib.Dec.{eqb}
 use lib.ListN.{length, replicate, length-replicate, getD-replicate}
 use Rattle.clock.specs.Word.{fresh}
 use Rattle.clock.specs.Laws.{fresh-is}
-use Rattle.rules.specs.Layout.{seatCount, planWidth, phaseAt, row, phase, position, reads, writes, time}
+use Rattle.rules.specs.Layout.{seatCount, planWidth, phaseAt, row, phase, position, reads, writes, time, storing, checking}
 use Rattle.rules.specs.Tables.{Tables, Outcome, tables}
 use Rattle.rules.specs.Answers.{ready, kind}
-use Rattle.rules.specs.Refusals.{refusal}
+use Rattle.rules.specs.Refusals.{seatRefusal}
 use Rattle.rules.specs.Plan.{setupRefusal, laid, setup}
 use Rattle.rules.specs.Advance.{advanceIn, advance, abandon}
 use Rattle.rules.specs.Calls.{Call, Setup, Open, Read, Write, Advance, Abandon, step, run, Event, history}
@@ -73,7 +73,7 @@ setup-began t start plan told r = let e = setup-ready t start plan r in rw (eq-e
 
 -- ADVANCE AND ABANDON, by the row's phase
 module _ (opening : Values) (t : Tables) (b : Observer) (now : Mirrored opening t b) (o s : ℕ) where
-  advance-in-ok : Fine t o s 0 4 → StaysMirrored opening b (Advance o s) (advanceIn t s)
+  advance-in-ok : Fine t o s storing → StaysMirrored opening b (Advance o s) (advanceIn t s)
   unfolding advanceIn
   advance-in-ok fi =
       cond-ind Q (eqb ph 1) (λ a. lock-ok opening t b now o s 4 fi (omega (arith, eqb-true ph 1 a)))
@@ -89,11 +89,11 @@ module _ (opening : Values) (t : Tables) (b : Observer) (now : Mirrored opening 
 
   advance-ok : StaysMirrored opening b (Advance o s) (advance t o s)
   unfolding advance
-  advance-ok = unless-ok opening t b now (Advance o s) (refusal t o s 0 4) _ (λ e. advance-in-ok (fine t o s 0 4 e))
+  advance-ok = unless-ok opening t b now (Advance o s) (seatRefusal t o s storing) _ (λ e. advance-in-ok (fine t o s false storing e))
 
   abandon-ok : StaysMirrored opening b (Abandon o s) (abandon t o s)
   unfolding abandon
-  abandon-ok = unless-ok opening t b now (Abandon o s) (refusal t o s 0 3) _ (λ e. let f = fine t o s 0 3 e in drop-ok opening t b now o s 3 f (f .phase-in))
+  abandon-ok = unless-ok opening t b now (Abandon o s) (seatRefusal t o s checking) _ (λ e. let f = fine t o s false checking e in drop-ok opening t b now o s 3 f (f .phase-in))
 
 -- ONE CALL
 -- where a Setup is answered ready, the values are the opening values from then on

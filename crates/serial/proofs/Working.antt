@@ -11,13 +11,13 @@ use Rattle.clock.specs.Word.{isLocked, writeTime, readTime}
 use Rattle.rules.specs.Layout.{seatCount, rowWidth, mostReads, mostWrites, phaseAt, positionAt, writeValueAt, row, put, phase, position, reads, writes}
 use Rattle.rules.specs.Places.{length-row}
 use Rattle.rules.specs.Tables.{Tables, tables}
-use Rattle.rules.specs.Refusals.{refusal}
+use Rattle.rules.specs.Refusals.{recordRefusal, unsized}
 use Rattle.rules.specs.Plan.{openRefusal, isFree, freeSeat, opened, openSeat}
 use Rattle.rules.specs.Work.{readOf, writeOf, above, placeOf, readNoted, firstRead, readIn, read, placed, writeIn, write}
 use Rattle.rules.specs.Calls.{Open, Read, Write}
 use Rattle.rules.specs.declared.Answer.the-variants.{Value, Noted}
 use Rattle.rows.specs.Search.{first-hit, first-le}
-use Rattle.rows.specs.Fine.{cond-ind, first-none, Sized, sized-of, position-one, Fine, fine, fine-row}
+use Rattle.rows.specs.Fine.{cond-ind, not-given, Sized, sized-of, position-one, Fine, fine, fine-row, item-in}
 use Rattle.rows.specs.FreeSeat.{seat-found}
 use Rattle.rows.specs.Changed.{openedRow, notedRow, noted-row, placedRow, placed-row}
 use Rattle.rows.specs.Becomes.{Becomes, becomes-put, becomes-opened, becomes-noted, becomes-placed}
@@ -56,11 +56,13 @@ module _ (opening : Values) (t : Tables) (b : Observer) (now : Mirrored opening 
   unfolding openSeat openRefusal freeSeat isFree observe
   open-ok o =
       unless-ok opening t b now (Open o) (openRefusal t o) _
-      (λ e. let l = seat-found t o e in opened-mirrored (freeSeat (t .seats)) o (sized-of t (first-none 0 _ e .0)) l
+      (λ e. let l = seat-found t o e in
+      let sized = not-given (unsized (length (t .values)) (length (t .words)) (length (t .seats))) 0 e in
+      opened-mirrored (freeSeat (t .seats)) o (sized-of t (sized .0)) l
       (eqb-true _ _ (first-hit (isFree (t .seats)) seatCount l)))
 
 -- READ AND WRITE, not refused before 6
-module _ (opening : Values) (t : Tables) (b : Observer) (now : Mirrored opening t b) (o s item : ℕ) (fi : Fine t o s item 1) where
+module _ (opening : Values) (t : Tables) (b : Observer) (now : Mirrored opening t b) (o s item : ℕ) (fi : Fine t o s 1) (there : item < length (t .words)) where
   abbrev g : List ℕ
   g = row (t .seats) s
 
@@ -97,7 +99,7 @@ module _ (opening : Values) (t : Tables) (b : Observer) (now : Mirrored opening 
       let word = getD (t .words) item 0 in
       let h = notedRow g item v (writeTime word) (readTime word) in
       let n = noted-row g item v (writeTime word) (readTime word) size (omega arith) in
-      let m : WordShows (now .σ .version item) v word = now .agree .shown item (fi .item-in) in
+      let m : WordShows (now .σ .version item) v word = now .agree .shown item there in
       let x : Seen = onRead (b .seats s) item (Value v) in
       let ph : phase h ≡ 1 = n .before phaseAt (omega arith) (omega arith) ∙ one in
       let po : position h ≡ 0 = n .before positionAt (omega arith) (omega arith) ∙ at-start in
@@ -176,9 +178,12 @@ module _ (opening : Values) (t : Tables) (b : Observer) (now : Mirrored opening 
 module _ (opening : Values) (t : Tables) (b : Observer) (now : Mirrored opening t b) where
   pub read-ok : (o s item : ℕ) → StaysMirrored opening b (Read o s item) (read t o s item)
   unfolding read
-  read-ok o s item = unless-ok opening t b now (Read o s item) (refusal t o s item 1) _ (λ e. read-in-ok opening t b now o s item (fine t o s item 1 e))
+  read-ok o s item =
+      unless-ok opening t b now (Read o s item) (recordRefusal t o s item 1) _
+      (λ e. read-in-ok opening t b now o s item (fine t o s _ 1 e) (item-in t o s item 1 e))
 
   pub write-ok : (o s item v : ℕ) → StaysMirrored opening b (Write o s item v) (write t o s item v)
   unfolding write
   write-ok o s item v =
-      unless-ok opening t b now (Write o s item v) (refusal t o s item 1) _ (λ e. write-in-ok opening t b now o s item (fine t o s item 1 e) v)
+      unless-ok opening t b now (Write o s item v) (recordRefusal t o s item 1) _
+      (λ e. write-in-ok opening t b now o s item (fine t o s _ 1 e) (item-in t o s item 1 e) v)

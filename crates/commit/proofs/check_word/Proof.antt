@@ -5,7 +5,6 @@ use borrow.Author.Needs.{needs}
 use denote.Ref.{now}
 use Rattle.rules.specs.Tables.{Tables, withWords, withSeats}
 use Rattle.rules.specs.Advance.{judged}
-use Rattle.rules.specs.declared.Verdict.the-variants.{Passes, Extends}
 use Rattle.seats.specs.Outcomes.{write-of}
 use Rattle.commit.proofs.Checks.{check-extends, check-fails, check-passes, extends-kept, is-extends, is-passes, judged-word, may-extend}
 use Rattle.commit.proofs.check_word.Statement.{statement}

@@ -1,5 +1,4 @@
 -- `seats::admit` meets its contract. Assumes nothing.
-use mathlib.Core.Path.{_≡_}
 use borrow.Author.Needs.{needs}
 use Rattle.rules.specs.Refusals.{refusal}
 use Rattle.seats.specs.Heads.{admission}
