@@ -16,7 +16,7 @@ use Rattle.rules.specs.Layout.{seatCount, mostReads, mostWrites, rowWidth, phas
 use Rattle.rules.specs.Layout.{readItemAt, keptWriteAt, keptReadAt, writeItemAt, writeValueAt, writeWidth, row, put, phase, owner, position}
 use Rattle.rules.specs.Layout.{reads, writes, time, readItem, keptWrite, keptRead, writeItem}
 use Rattle.rules.specs.Places.{length-row}
-use Rattle.rules.specs.Tables.{Tables, after, keep}
+use Rattle.rules.specs.Tables.{Tables, withSeats, answered}
 use Rattle.rules.specs.Answers.{ready, value, noted, refused, kind}
 use Rattle.rules.specs.Work.{readNames, writeNames, readOf, writeOf, readNoted, firstRead, readIn, above, placeOf, placed, writeIn}
 use Rattle.rules.specs.declared.Answer.{Answer}
@@ -83,12 +83,12 @@ module _ (t : Tables) (s : ℕ) (k : InOrder t) (u : Used (length (t .words)) (r
   size = length-row (t .seats) s (k .sized .rows) small
 
   -- the tables stay: a value told again, a refusal
-  tells-again : (item v : ℕ) → isKnown (seenOf g) item ≡ true → Step t s (λ x a. onRead x item a) (keep t (Value v))
+  tells-again : (item v : ℕ) → isKnown (seenOf g) item ≡ true → Step t s (λ x a. onRead x item a) (answered (Value v) t)
   tells-again item v h =
       step-keep t s _ (Value v) (row-used u)
       (record { shown = sym (read-known g (seenOf g) (row-shows g) item v h); fair = λ e. absurd (omega arith); plain = λ e. omega arith })
 
-  refuses : (f : Seen → Answer → Seen) (n : ℕ) → n ≢ 3 → f (seenOf g) (Refused n) ≡ seenOf g → Step t s f (keep t (Refused n))
+  refuses : (f : Seen → Answer → Seen) (n : ℕ) → n ≢ 3 → f (seenOf g) (Refused n) ≡ seenOf g → Step t s f (answered (Refused n) t)
   refuses f n d e = step-keep t s f (Refused n) (row-used u) (record { shown = sym e; fair = λ q. d; plain = λ e. omega arith })
 
   none-told : (h : List ℕ) → phase h ≡ 1 → position h ≡ 0 → seenOf h .advances ≡ []
@@ -96,7 +96,7 @@ module _ (t : Tables) (s : ℕ) (k : InOrder t) (u : Used (length (t .words)) (r
 
   -- the row changes in its entries alone
   edited : (f : Seen → Answer → Seen) (seats h : List ℕ) (a : Answer) → EntersAlone f → kind a ≢ ready → kind a ≢ refused → Shows h (f (seenOf g) a) →
-      Becomes (t .seats) seats s h → Alike g h → Entries (length (t .words)) h → Step t s f (after a (t .values) (t .words) seats)
+      Becomes (t .seats) seats s h → Alike g h → Entries (length (t .words)) h → Step t s f (answered a (withSeats t seats))
   unfolding EntersAlone
   edited f seats h a enters plain given shows b e q =
       let hd = u .head in
@@ -143,7 +143,7 @@ module _ (t : Tables) (s : ℕ) (k : InOrder t) (u : Used (length (t .words)) (r
 
   -- READ: a new read entry
   note-ok : (y v word : ℕ) → y < length (t .words) → word ≡ getD (t .words) y 0 → reads g < mostReads → ((i : ℕ) → i < reads g → readItem g i ≢ y) →
-      isKnown (seenOf g) y ≡ false → Step t s (λ x a. onRead x y a) (after (Value v) (t .values) (t .words) (readNoted (t .seats) s y v word))
+      isKnown (seenOf g) y ≡ false → Step t s (λ x a. onRead x y a) (answered (Value v) (withSeats t (readNoted (t .seats) s y v word)))
   note-ok y v word inside ew few unread un =
       let n : ℕ = reads g in
       let h : List ℕ = notedRow g y v (writeTime word) (readTime word) in
@@ -191,12 +191,12 @@ module _ (t : Tables) (s : ℕ) (k : InOrder t) (u : Used (length (t .words)) (r
       (λ e3. rw e3 (note-ok y (getD (t .values) y 0) (getD (t .words) y 0) inside refl (leb-false mostReads (reads g) e2)
       (λ i l. no-read-of g y i (ltb-false _ _ e1) l) (known ∙ rw (e0, e1) refl)))))))))
     where
-      read-refused : (n : ℕ) → n ≢ 3 → Step t s (λ x a. onRead x y a) (keep t (Refused n))
+      read-refused : (n : ℕ) → n ≢ 3 → Step t s (λ x a. onRead x y a) (answered (Refused n) t)
       read-refused n d = refuses _ n d (unfold onRead in refl)
 
   -- WRITE: a pending value replaced
   over-ok : (x v : ℕ) → ltb (writeOf g x) (writes g) ≡ true →
-      Step t s (λ z a. onWrite z x v a) (after (Noted x) (t .values) (t .words) (put (t .seats) s (writeValueAt (writeOf g x)) v))
+      Step t s (λ z a. onWrite z x v a) (answered (Noted x) (withSeats t (put (t .seats) s (writeValueAt (writeOf g x)) v)))
   over-ok x v found =
       let i : ℕ = writeOf g x in
       let b : i < writes g = ltb-true _ _ found in
@@ -244,7 +244,7 @@ module _ (t : Tables) (s : ℕ) (k : InOrder t) (u : Used (length (t .words)) (r
 
   -- a new write entry, before the first with a greater record number
   place-ok : (x v : ℕ) → ltb (writeOf g x) (writes g) ≡ false → writes g < mostWrites → x < length (t .words) →
-      Step t s (λ z a. onWrite z x v a) (after (Noted x) (t .values) (t .words) (placed (t .seats) s (placeOf g x) x v))
+      Step t s (λ z a. onWrite z x v a) (answered (Noted x) (withSeats t (placed (t .seats) s (placeOf g x) x v)))
   place-ok x v none few inside =
       let i : ℕ = placeOf g x in
       let fits = place-in x in

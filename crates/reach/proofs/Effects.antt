@@ -10,7 +10,7 @@ use lib.Dec.{ltb, eqb}
 use lib.ListN.{length, getD, length-replicate}
 use Rattle.clock.specs.Word.{top, fresh}
 use Rattle.rules.specs.Layout.{seatCount, planWidth, row, phase, working, storing, checking}
-use Rattle.rules.specs.Tables.{Tables, Outcome, keep, unless}
+use Rattle.rules.specs.Tables.{Tables, Outcome, answered, unless}
 use Rattle.rules.specs.Refusals.{unsized, misnamed, refusal, rowRefusal, recordRefusal, seatRefusal}
 use Rattle.rules.specs.Plan.{badPlan, setupRefusal, setup, openRefusal, freeSeat, openSeat}
 use Rattle.rules.specs.Work.{readIn, read, writeIn, write}
@@ -38,7 +38,7 @@ pub record ShowsAt (c : Call) (a : Answer) (s : ℕ) (f : Seen → Answer → Se
   pub plan : (b : Observer) → observe b c a .plan ≡ b .plan
 
 pub data Effect (t : Tables) (c : Call) (o : Outcome) : Type 0 where
-  refuses : (n : ℕ) → n ≢ 3 → o ≡ keep t (Refused n) → Effect t c o
+  refuses : (n : ℕ) → n ≢ 3 → o ≡ answered (Refused n) t → Effect t c o
   changes : (s : ℕ) → s < seatCount → (f : Seen → Answer → Seen) → ShowsAt c (o .answer) s f → (h : List ℕ) → Change t (o .tables) s h →
       WithinPlan (o .tables .seats) → Tells f (row (t .seats) s) h (o .answer) → Effect t c o
   starts : (start : ℕ) (plan : List ℕ) → c ≡ Setup start plan → o .answer ≡ Ready (length (t .words)) →

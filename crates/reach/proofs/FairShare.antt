@@ -10,7 +10,7 @@ use lib.Dec.{eqb, leb}
 use Rattle.rules.specs.Tests.{count, sumTo}
 use Rattle.rules.specs.Layout.{owners, seatCount, shareAt, limitAt, row, phase, owner}
 use Rattle.rules.specs.Places.{length-row}
-use Rattle.rules.specs.Tables.{Tables, Outcome, after, keep}
+use Rattle.rules.specs.Tables.{Tables, Outcome, withSeats, answered}
 use Rattle.rules.specs.Answers.{seat, refused, kind, number}
 use Rattle.rules.specs.Plan.{holds, held, claims, crowded, openRefusal, isFree, freeSeat, opened, openSeat}
 use Rattle.rules.specs.Calls.{Open, step}
@@ -31,14 +31,14 @@ use Rattle.reach.proofs.Observed.{seat-is, plan-stays}
 
 -- what Open comes to
 pub opens : (t : Tables) (o : ℕ) → openRefusal t o ≡ 0 →
-    step t (Open o) ≡ after (Seat (freeSeat (t .seats))) (t .values) (t .words) (opened (t .seats) (freeSeat (t .seats)) o)
+    step t (Open o) ≡ answered (Seat (freeSeat (t .seats))) (withSeats t (opened (t .seats) (freeSeat (t .seats)) o))
 unfolding step openSeat
 opens t o e = rw e refl
 
 pub opens-not : (t : Tables) (o n : ℕ) → n ≢ 0 → openRefusal t o ≡ n → asks t o ≡ Refused n
 opens-not t o n d e = ap (λ (z : Outcome). z .answer) same
   where
-    same : step t (Open o) ≡ keep t (Refused n)
+    same : step t (Open o) ≡ answered (Refused n) t
     same = unfold step openSeat in rw (e, ne-eqb n 0 d) refl
 
 -- the three answers to an owner

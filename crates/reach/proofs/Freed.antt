@@ -13,7 +13,7 @@ use Rattle.clock.specs.Word.{isLocked, withLock}
 use Rattle.clock.specs.Laws.{withLock-is, withLock-twice}
 use Rattle.rules.specs.Layout.{seatCount, seatsLength, phaseAt, ownerAt, positionAt, readsAt, writesAt, timeAt, row, phase, reads, writes, writeItem}
 use Rattle.rules.specs.Places.{length-row}
-use Rattle.rules.specs.Tables.{Tables, after}
+use Rattle.rules.specs.Tables.{Tables, answered, withSeats, withWords}
 use Rattle.rules.specs.Answers.{ready, refused, kind}
 use Rattle.rules.specs.Plan.{freed}
 use Rattle.rules.specs.Advance.{heldLocks, released, letGo}
@@ -108,7 +108,7 @@ module _ (t : Tables) (s : ℕ) (f : Seen → Answer → Seen) (size : length (t
   pub free-step : (words : List ℕ) (a : Answer) → Ends f a → length words ≡ length (t .words) →
       ((x : ℕ) → x < length (t .words) → locks (row (t .seats) s) x ≡ true → getD words x 0 ≡ withLock false (getD (t .words) x 0)) →
       ((x : ℕ) → x < length (t .words) → locks (row (t .seats) s) x ≡ false → getD words x 0 ≡ getD (t .words) x 0) →
-      Step t s f (after a (t .values) words (freed (t .seats) s))
+      Step t s f (answered a (withSeats (withWords t words) (freed (t .seats) s)))
   free-step words a e as-many hit miss =
       let g : List ℕ = row (t .seats) s in
       let zero-row : Zero freeRow = (λ i h. free-at i) in

@@ -9,7 +9,7 @@ use lib.Dec.{leb, ltb, eqb}
 use lib.ListN.{length, getD}
 use Rattle.clock.specs.Word.{top, isLocked}
 use Rattle.rules.specs.Layout.{mostReads, mostWrites, row, phase, position, reads, writes, writeItem, storing, checking, working}
-use Rattle.rules.specs.Tables.{Tables, Outcome, keep, unless}
+use Rattle.rules.specs.Tables.{Tables, Outcome, answered, unless}
 use Rattle.rules.specs.Answers.{dropped, refused, aborted, kind}
 use Rattle.rules.specs.Refusals.{refusal, seatRefusal, recordRefusal}
 use Rattle.rules.specs.Plan.{setupRefusal, setup, openRefusal, openSeat}
@@ -62,7 +62,7 @@ module _ (t : Tables) (c : Call) where
   plain : (a : Answer) (u : Tables) → eqb (kind a) refused ≡ false → eqb (kind a) aborted ≡ false → Leaves t c (record { answer = a; tables = u })
   plain a u p q = record { all = λ e. absurd (eqb-false _ _ p e); gone = λ e. absurd (eqb-false _ _ q e) }
 
-  refusing : (n : ℕ) → Leaves t c (keep t (Refused n))
+  refusing : (n : ℕ) → Leaves t c (answered (Refused n) t)
   refusing n = record { all = λ e. refl; gone = λ e. absurd (omega arith) }
 
   guarded : (why : ℕ) (o : Outcome) → (why ≡ 0 → Leaves t c o) → Leaves t c (unless why t o)

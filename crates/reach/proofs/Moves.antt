@@ -13,7 +13,7 @@ use Rattle.clock.specs.Laws.{withLock-is, fresh-is, extended-is}
 use Rattle.rules.specs.Layout.{seatCount, seatsLength, positionAt, timeAt, writeItemAt, row, put, phase, position, reads, writes, time}
 use Rattle.rules.specs.Layout.{keptWrite, writeItem, writeValue}
 use Rattle.rules.specs.Places.{length-row}
-use Rattle.rules.specs.Tables.{Tables, after}
+use Rattle.rules.specs.Tables.{Tables, answered, withSeats, tables, withWords}
 use Rattle.rules.specs.Answers.{locked, stored, kind}
 use Rattle.rules.specs.Advance.{moved, lockStep, commitTime, timeStep, verdict, checkItem, judged, stretched, passed, ruled, checkStep, byWord, versionGone}
 use Rattle.rules.specs.Advance.{passedTo}
@@ -109,7 +109,7 @@ module _ (t : Tables) (s : ℕ) (size : length (t .seats) ≡ seatsLength) (smal
   -- a step whose row is nudged
   nudge-step : (values words seats h : List ℕ) (a : Answer) {ph p tm : ℕ} → Becomes (t .seats) seats s h → Nudged g h ph p tm →
       length values ≡ length (t .values) → length words ≡ length (t .words) → Head h → (3 ≤ ph → (i : ℕ) → i < reads g → keptWrite g i ≤ tm) →
-      Follows (t .words) words g h → StaysTimely (t .words) words → Tells onAdvance g h a → Step t s onAdvance (after a values words seats)
+      Follows (t .words) words g h → StaysTimely (t .words) words → Tells onAdvance g h a → Step t s onAdvance (answered a (tables values words seats))
   nudge-step values words seats h a b n ev ew hd k lk tk told =
       let us = u .head .used in
       record {
@@ -140,7 +140,7 @@ module _ (t : Tables) (s : ℕ) (size : length (t .seats) ≡ seatsLength) (smal
 
   -- PHASES 1 AND 2
   take-lock : phase g ≤ 2 → position g < writes g → (x word : ℕ) → x ≡ writeItem g (position g) → word ≡ getD (t .words) x 0 → isLocked word ≡ false →
-      Step t s onAdvance (after (Locked x) (t .values) (set (t .words) x (withLock true word)) (moved (t .seats) s 2 (position g + 1)))
+      Step t s onAdvance (answered (Locked x) (withSeats (withWords t (set (t .words) x (withLock true word))) (moved (t .seats) s 2 (position g + 1))))
   unfolding locks onAdvance
   take-lock p b x word ex ew free =
       let q : ℕ = position g + 1 in
@@ -197,7 +197,7 @@ module _ (t : Tables) (s : ℕ) (size : length (t .seats) ≡ seatsLength) (smal
       (λ e. rw e (take-lock p b (writeItem g (position g)) _ refl refl e))
 
   timed-ok : phase g ≤ 2 → position g ≡ writes g → (tc : ℕ) → ((i : ℕ) → i < reads g → keptWrite g i ≤ tc) → tc ≤ top →
-      Step t s onAdvance (after (Timed tc) (t .values) (t .words) (put (moved (t .seats) s 3 0) s timeAt tc))
+      Step t s onAdvance (answered (Timed tc) (withSeats t (put (moved (t .seats) s 3 0) s timeAt tc)))
   unfolding onAdvance
   timed-ok p e tc kept late =
       let h : List ℕ = set (movedRow g 3 0) timeAt tc in

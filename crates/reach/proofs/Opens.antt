@@ -11,7 +11,7 @@ use lib.ListN.{length, take}
 use Rattle.rules.specs.Layout.{owners, seatCount, mostRecords, seatsLength, positionAt, readsAt, writesAt, timeAt}
 use Rattle.rules.specs.Layout.{row, phase, owner, position, reads, writes, time, share, limit}
 use Rattle.rules.specs.Places.{length-row}
-use Rattle.rules.specs.Tables.{Tables, after}
+use Rattle.rules.specs.Tables.{Tables, answered, withSeats}
 use Rattle.rules.specs.Refusals.{unsized}
 use Rattle.rules.specs.Plan.{badRow, held, claims, overLimit, unsound, crowded, openRefusal, isFree, freeSeat, opened, planRefusal, ownerRefusal}
 use Rattle.rules.specs.declared.Answer.the-variants.{Seat}
@@ -117,7 +117,7 @@ module _ (t : Tables) (k : InOrder t) (o : ℕ) where
     abbrev h : List ℕ
     h = openedRow o
 
-    pub open-change : o < owners → Change t (after (Seat s) (t .values) (t .words) (opened (t .seats) s o) .tables) s (openedRow o)
+    pub open-change : o < owners → Change t (answered (Seat s) (withSeats t (opened (t .seats) s o)) .tables) s (openedRow o)
     open-change b =
         let z = opened-row o in
         let d0 : phase h ≡ 1 = z .is-phase in

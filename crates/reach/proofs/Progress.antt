@@ -10,7 +10,7 @@ use lib.Dec.{eqb, ltb}
 use lib.ListN.{length, take, replicate, length-append, length-replicate}
 use lib.Seq.{take-nil}
 use Rattle.rules.specs.Layout.{owners, seatCount, row, phase, owner, position, writes, storing, checking, working}
-use Rattle.rules.specs.Tables.{Tables, Outcome, keep, unless}
+use Rattle.rules.specs.Tables.{Tables, Outcome, answered, unless}
 use Rattle.rules.specs.Refusals.{misnamed, refusal, seatRefusal, recordRefusal}
 use Rattle.rules.specs.Plan.{setupRefusal, setup, openRefusal, freeSeat, openSeat}
 use Rattle.rules.specs.Work.{readIn, read, writeIn, write}
@@ -48,7 +48,7 @@ store-step t s p =
     let g : List ℕ = row (t .seats) s in
     rw (ne-eqb (phase g) 1 (omega arith), ne-eqb (phase g) 2 (omega arith), ne-eqb (phase g) 3 (omega arith), eq-eqb (phase g) 4 p) refl
 
-unless-refused : (why : ℕ) (t : Tables) (o : Outcome) → why ≢ 0 → unless why t o ≡ keep t (Refused why)
+unless-refused : (why : ℕ) (t : Tables) (o : Outcome) → why ≢ 0 → unless why t o ≡ answered (Refused why) t
 unless-refused why t o d = rw (ne-eqb why 0 d) refl
 
 not-refused : (t : Tables) (o s : ℕ) → kind (advanced t o s) ≢ refused → Fine t o s storing
@@ -187,11 +187,11 @@ module _ (t : Tables) (z : Reached t) (s : ℕ) (low : s < seatCount) (h : seen 
   abbrev Still : Call → Type 0
   Still c = observe (seen z) c (step t c .answer) .seats s ≡ seen z .seats s
 
-  refused-still : (c : Call) (n : ℕ) → step t c ≡ keep t (Refused n) → Still c
+  refused-still : (c : Call) (n : ℕ) → step t c ≡ answered (Refused n) t → Still c
   refused-still c n e = rw e (ap (λ (b : Observer). b .seats s) (refusal-shows (seen z) c n))
 
   -- a call that names seat j
-  seat-still : (c : Call) (j n : ℕ) → (s ≢ j → Still c) → (s ≡ j → step t c ≡ keep t (Refused n)) → Still c
+  seat-still : (c : Call) (j n : ℕ) → (s ≢ j → Still c) → (s ≡ j → step t c ≡ answered (Refused n) t) → Still c
   seat-still c j n other f = by (eqb s j) (λ e. refused-still c n (f (eqb-true s j e))) (λ e. other (eqb-false s j e))
 
   still : (c : Call) → isAdvance (seen z .seats s .holder) s c ≡ false → begins c (step t c .answer) ≡ false → Still c

@@ -11,7 +11,7 @@ use lib.ListN.{length, getD, set, take}
 use lib.Seq.{getD-set-same, getD-set-other}
 use Rattle.clock.specs.Word.{top, readTime}
 use Rattle.rules.specs.Layout.{seatCount, row, phase, owner, position, reads, writes, time}
-use Rattle.rules.specs.Tables.{Tables, Outcome, keep}
+use Rattle.rules.specs.Tables.{Tables, Outcome, answered}
 use Rattle.rules.specs.Answers.{ready, refused, kind, number}
 use Rattle.rules.specs.declared.Answer.{Answer}
 use Rattle.rows.specs.Becomes.{Becomes, stays}
@@ -137,7 +137,7 @@ state-after t t′ s h low c b k =
 
 -- an answer that leaves all tables
 pub step-keep : (t : Tables) (s : ℕ) (f : Seen → Answer → Seen) (a : Answer) → Row (length (t .words)) (row (t .seats) s) →
-    Tells f (row (t .seats) s) (row (t .seats) s) a → Step t s f (keep t a)
+    Tells f (row (t .seats) s) (row (t .seats) s) a → Step t s f (answered a t)
 step-keep t s f a r q =
     record {
       next = row (t .seats) s;

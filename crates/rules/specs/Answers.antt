@@ -4,21 +4,21 @@ use Prim.Native.String.{String}
 use Rattle.rules.specs.declared.Answer.{Answer}
 use Rattle.rules.specs.declared.Answer.the-variants.{Ready, Seat, Value, Noted, Locked, Timed, Checked, Sealed, Stored, Done, Dropped, Refused, Aborted}
 
--- the document's word
-abbrev pub word : Answer → String
-word (Ready n) = "ready"
-word (Seat n) = "seat"
-word (Value n) = "value"
-word (Noted n) = "noted"
-word (Locked n) = "locked"
-word (Timed n) = "timed"
-word (Checked n) = "checked"
-word (Sealed n) = "sealed"
-word (Stored n) = "stored"
-word (Done n) = "done"
-word (Dropped n) = "dropped"
-word (Refused n) = "refused"
-word (Aborted n) = "aborted"
+-- the document's word, spelled
+abbrev pub spelling : Answer → String
+spelling (Ready n) = "ready"
+spelling (Seat n) = "seat"
+spelling (Value n) = "value"
+spelling (Noted n) = "noted"
+spelling (Locked n) = "locked"
+spelling (Timed n) = "timed"
+spelling (Checked n) = "checked"
+spelling (Sealed n) = "sealed"
+spelling (Stored n) = "stored"
+spelling (Done n) = "done"
+spelling (Dropped n) = "dropped"
+spelling (Refused n) = "refused"
+spelling (Aborted n) = "aborted"
 
 -- the words, numbered
 abbrev pub ready : ℕ

@@ -32,13 +32,6 @@ withSeats t seats = record { values = t .values; words = t .words; seats = seats
 abbrev pub answered : Answer → Tables → Outcome
 answered a t = record { answer = a; tables = t }
 
-abbrev pub after : Answer → List ℕ → List ℕ → List ℕ → Outcome
-after a values words seats = record { answer = a; tables = tables values words seats }
-
--- an answer that leaves every table as it was
-abbrev pub keep : Tables → Answer → Outcome
-keep t a = record { answer = a; tables = t }
-
 -- refused where the number is not 0, and then every table stays; otherwise the outcome
 abbrev pub unless : ℕ → Tables → Outcome → Outcome
-unless why t o = cond (eqb why 0) o (keep t (Refused why))
+unless why t o = cond (eqb why 0) o (answered (Refused why) t)

@@ -13,7 +13,7 @@ use lib.ListN.{length, getD, set, length-set}
 use lib.Seq.{getD-set-same, getD-set-other}
 use Rattle.clock.specs.Word.{isLocked, writeTime, readTime}
 use Rattle.rules.specs.Layout.{row, phase, position, writes, time}
-use Rattle.rules.specs.Tables.{Tables, Outcome, keep, unless}
+use Rattle.rules.specs.Tables.{Tables, Outcome, answered, unless}
 use Rattle.rules.specs.Calls.{Call}
 use Rattle.rules.specs.declared.Answer.the-variants.{Refused}
 use Rattle.rows.specs.Fine.{cond-ind, Sized}
@@ -77,7 +77,7 @@ abbrev pub StaysMirrored : Values → Observer → Call → Outcome → Type 0
 StaysMirrored opening b c z = Mirrored opening (z .tables) (observe b c (z .answer))
 
 -- a refusal shows nothing new
-pub refused : (opening : Values) (t : Tables) (b : Observer) → Mirrored opening t b → (c : Call) (why : ℕ) → StaysMirrored opening b c (keep t (Refused why))
+pub refused : (opening : Values) (t : Tables) (b : Observer) → Mirrored opening t b → (c : Call) (why : ℕ) → StaysMirrored opening b c (answered (Refused why) t)
 refused opening t b now c why = rw (refusal-shows b c why) now
 
 pub unless-ok : (opening : Values) (t : Tables) (b : Observer) → Mirrored opening t b → (c : Call) (why : ℕ) (z : Outcome) →
