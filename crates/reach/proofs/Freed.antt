@@ -28,7 +28,7 @@ use Rattle.reach.specs.Invariants.{lockFrom, lockTo}
 use Rattle.reach.specs.Life.{script}
 use Rattle.reach.proofs.Tests.{by}
 use Rattle.reach.proofs.Count.{one, one-le}
-use Rattle.reach.proofs.InOrder.{Zero, Used, locks, lockBit}
+use Rattle.reach.proofs.InOrder.{Zero, Used, locks, lockCount}
 use Rattle.reach.proofs.Named.{named-has, named-none, locks-none}
 use Rattle.reach.proofs.Rows.{row-zero, from-zero, to-early, to-held, steps-early}
 use Rattle.reach.proofs.WithinPlan.{held-free}
@@ -123,10 +123,10 @@ module _ (t : Tables) (s : ℕ) (f : Seen → Answer → Seen) (size : length (t
               let q0 : one (locks freeRow x) ≡ 0 = ap one (locks-free freeRow zero-row x) in
               by (locks g x)
               (λ q. let q1 : one (locks (row (t .seats) s) x) ≡ 1 = ap one q in
-              let r : lockBit words x ≡ 0 = ap one (ap isLocked (hit x h q) ∙ withLock-is false (getD (t .words) x 0) .is-locked) in
+              let r : lockCount words x ≡ 0 = ap one (ap isLocked (hit x h q) ∙ withLock-is false (getD (t .words) x 0) .is-locked) in
               let o = one-le (isLocked (getD (t .words) x 0)) in omega arith)
               (λ q. let q1 : one (locks (row (t .seats) s) x) ≡ 0 = ap one q in
-              let r : lockBit words x ≡ lockBit (t .words) x = ap (λ (k : ℕ). one (isLocked k)) (miss x h q) in omega arith);
+              let r : lockCount words x ≡ lockCount (t .words) x = ap (λ (k : ℕ). one (isLocked k)) (miss x h q) in omega arith);
           timely = λ x h le.
               by (locks g x)
               (λ q. rw (hit x h q, withLock-is false (getD (t .words) x 0) .is-read) le)

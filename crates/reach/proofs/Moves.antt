@@ -30,7 +30,7 @@ use Rattle.observer.proofs.Entries.{writeAt, writeEntries, nudged-at, nudged-re
 use Rattle.reach.specs.Invariants.{lockFrom, lockTo}
 use Rattle.reach.proofs.Tests.{by, or-true, or-false}
 use Rattle.reach.proofs.Count.{one, one-le}
-use Rattle.reach.proofs.InOrder.{Head, Used, locks, stepsTaken, lockBit}
+use Rattle.reach.proofs.InOrder.{Head, Used, locks, stepsTaken, lockCount}
 use Rattle.reach.proofs.Script.{script-length, NextKind, says-locked, says-timed, says-checked, says-sealed, says-stored, kind-next}
 use Rattle.reach.proofs.Named.{named-yes, named-no, named-same, locks-same, locks-none}
 use Rattle.reach.proofs.Rows.{nudged-owner, nudged-head, used-nudged, row-used, from-zero, from-four, to-early, to-late, steps-early}
@@ -119,14 +119,15 @@ module _ (t : Tables) (s : ℕ) (size : length (t .seats) ≡ seatsLength) (smal
       }
 
   -- the same locks
-  still : (h : List ℕ) {ph p tm : ℕ} → Nudged g h ph p tm → lockFrom h ≡ lockFrom g → lockTo h ≡ lockTo g → (x : ℕ) → locks h x ≡ locks g x
-  still h n el et = locks-same g h el et (λ i _. nudged-at n (writeItemAt i) (omega arith))
+  same-locks : (h : List ℕ) {ph p tm : ℕ} → Nudged g h ph p tm → lockFrom h ≡ lockFrom g → lockTo h ≡ lockTo g → (x : ℕ) → locks h x ≡ locks g x
+  same-locks h n el et = locks-same g h el et (λ i _. nudged-at n (writeItemAt i) (omega arith))
 
-  still-checking : (h : List ℕ) {ph p tm : ℕ} → Nudged g h ph p tm → lockFrom h ≡ 0 → phase g ≡ 3 → 3 ≤ phase h → (x : ℕ) → locks h x ≡ locks g x
-  still-checking h n from e late = still h n (from ∙ sym (from-zero g (omega arith))) (to-late h late ∙ nudged-writes n ∙ sym (to-late g (omega arith)))
+  same-locks-checking : (h : List ℕ) {ph p tm : ℕ} → Nudged g h ph p tm → lockFrom h ≡ 0 → phase g ≡ 3 → 3 ≤ phase h → (x : ℕ) → locks h x ≡ locks g x
+  same-locks-checking h n from e late =
+      same-locks h n (from ∙ sym (from-zero g (omega arith))) (to-late h late ∙ nudged-writes n ∙ sym (to-late g (omega arith)))
 
   -- by words whose locks are the same
-  follows-same : (words h : List ℕ) → ((x : ℕ) → x < length (t .words) → lockBit words x ≡ lockBit (t .words) x) → ((x : ℕ) → locks h x ≡ locks g x) →
+  follows-same : (words h : List ℕ) → ((x : ℕ) → x < length (t .words) → lockCount words x ≡ lockCount (t .words) x) → ((x : ℕ) → locks h x ≡ locks g x) →
       Follows (t .words) words g h
   follows-same words h eb same x l le = let a = eb x l in let b : one (locks h x) ≡ one (locks g x) = ap one (same x) in omega arith
 
@@ -177,8 +178,8 @@ module _ (t : Tables) (s : ℕ) (size : length (t .seats) ≡ seatsLength) (smal
       (length-set (t .words) x (withLock true word))
       (omega arith)
       (λ k. absurd (omega arith))
-      (λ z l le. set-ind (λ v. one (isLocked v) + one (locks g z) ≡ lockBit (t .words) z + one (locks h z)) (t .words) x (withLock true word) z inside
-      (λ e. let b0 : lockBit (t .words) z ≡ 0 = ap one (ap (λ (j : ℕ). isLocked (getD (t .words) j 0)) (sym e) ∙ ap isLocked (sym ew) ∙ free) in
+      (λ z l le. set-ind (λ v. one (isLocked v) + one (locks g z) ≡ lockCount (t .words) z + one (locks h z)) (t .words) x (withLock true word) z inside
+      (λ e. let b0 : lockCount (t .words) z ≡ 0 = ap one (ap (λ (j : ℕ). isLocked (getD (t .words) j 0)) (sym e) ∙ ap isLocked (sym ew) ∙ free) in
       let b1 : one (isLocked (withLock true word)) ≡ 1 = ap one (now .is-locked) in
       let b2 : one (locks h z) ≡ 1 = ap one (ap (locks h) (sym e) ∙ taken) in
       omega arith)
@@ -207,7 +208,7 @@ module _ (t : Tables) (s : ℕ) (size : length (t .seats) ≡ seatsLength) (smal
       let pg = steps-early g p in
       let ph = steps-three h (n .is-phase) in
       let from = from-zero h (omega arith) ∙ sym (from-zero g (omega arith)) in
-      let same = still h n from (to-late h (omega arith) ∙ nudged-writes n ∙ sym e ∙ sym (to-early g p)) in
+      let same = same-locks h n from (to-late h (omega arith) ∙ nudged-writes n ∙ sym e ∙ sym (to-early g p)) in
       nudge-step (t .values) (t .words) (put (moved (t .seats) s 3 0) s timeAt tc) h (Timed tc)
       (then-put timeAt tc (omega arith) (becomes-moved (t .seats) s 3 0)) n refl refl
       (omega arith)
@@ -228,7 +229,7 @@ module _ (t : Tables) (s : ℕ) (size : length (t .seats) ≡ seatsLength) (smal
 
   -- PHASE 3
   pass-ok : phase g ≡ 3 → position g < reads g → (words : List ℕ) → length words ≡ length (t .words) →
-      ((x : ℕ) → x < length (t .words) → lockBit words x ≡ lockBit (t .words) x) → StaysTimely (t .words) words → Step t s onAdvance (passed t s words)
+      ((x : ℕ) → x < length (t .words) → lockCount words x ≡ lockCount (t .words) x) → StaysTimely (t .words) words → Step t s onAdvance (passed t s words)
   unfolding passed onAdvance
   pass-ok p b words ew eb et =
       let q : ℕ = position g + 1 in
@@ -239,7 +240,7 @@ module _ (t : Tables) (s : ℕ) (size : length (t .seats) ≡ seatsLength) (smal
       let ht = u .head .timely in
       let pg = steps-three g p in
       let ph = steps-three h (omega arith) in
-      let same = still-checking h n (from-zero h (omega arith)) p (omega arith) in
+      let same = same-locks-checking h n (from-zero h (omega arith)) p (omega arith) in
       nudge-step (t .values) words (put (t .seats) s positionAt q) h (Checked (checkItem g)) (becomes-put (t .seats) s positionAt q (omega arith)) n refl ew
       (omega arith)
       (u .not-below)
@@ -260,7 +261,7 @@ module _ (t : Tables) (s : ℕ) (size : length (t .seats) ≡ seatsLength) (smal
       let inside : x < length (t .words) = u .entries .read-in (position g) b in
       let now = extended-is word (time g) (omega arith) (u .head .timely) in
       pass-ok p b (set (t .words) x (extended word (time g))) (length-set (t .words) x (extended word (time g)))
-      (λ z l. set-ind (λ v. one (isLocked v) ≡ lockBit (t .words) z) (t .words) x (extended word (time g)) z inside
+      (λ z l. set-ind (λ v. one (isLocked v) ≡ lockCount (t .words) z) (t .words) x (extended word (time g)) z inside
       (λ q. ap one (now .is-locked ∙ ap (λ (j : ℕ). isLocked (getD (t .words) j 0)) q)) (λ d. refl))
       (λ z l le. set-ind (λ v. readTime v ≤ top) (t .words) x (extended word (time g)) z inside
       (λ q. rw (now .is-read) (u .head .timely)) (λ d. le))
@@ -277,7 +278,7 @@ module _ (t : Tables) (s : ℕ) (size : length (t .seats) ≡ seatsLength) (smal
       let ht = u .head .timely in
       let pg = steps-three g p in
       let ph = steps-four h (n .is-phase) in
-      let same = still-checking h n (from-four h (n .is-phase) ∙ n .is-position) p (omega arith) in
+      let same = same-locks-checking h n (from-four h (n .is-phase) ∙ n .is-position) p (omega arith) in
       let all-left : writes h - position h ≡ length (writeEntries g) = (let e = length-seg (writeAt g) (writes g) 0 in omega arith) in
       nudge-step (t .values) (t .words) (moved (t .seats) s 4 0) h (Sealed (time g)) (becomes-moved (t .seats) s 4 0) n refl refl
       (omega arith)
@@ -330,7 +331,7 @@ module _ (t : Tables) (s : ℕ) (size : length (t .seats) ≡ seatsLength) (smal
       (becomes-put (t .seats) s positionAt q (omega arith)) n (length-set (t .values) x v) (length-set (t .words) x f)
       (omega arith)
       (u .not-below)
-      (λ z l le. set-ind (λ v. one (isLocked v) + one (locks g z) ≡ lockBit (t .words) z + one (locks h z)) (t .words) x f z inside
+      (λ z l le. set-ind (λ v. one (isLocked v) + one (locks g z) ≡ lockCount (t .words) z + one (locks h z)) (t .words) x f z inside
       (λ e. let held : locks g z ≡ true =
       named-yes (writeItem g) (lockFrom g) (lockTo g) z (position g) (record { from = omega arith; below = omega arith; named = e }) in
       let b0 : one (locks g z) ≡ 1 = ap one held in
