@@ -27,8 +27,8 @@ use Rattle.reach.proofs.InOrder.{Zero, Used, WithinPlan, InOrder}
 use Rattle.reach.proofs.Rows.{undamaged}
 use Rattle.reach.proofs.WithinPlan.{within-less}
 use Rattle.reach.proofs.Steps.{Change, Tells, Step, state-after}
-use Rattle.reach.proofs.Freed.{lets-go}
-use Rattle.reach.proofs.Moves.{drops, advance-ok}
+use Rattle.reach.proofs.Freed.{lets-go, drops}
+use Rattle.reach.proofs.Moves.{advance-ok}
 use Rattle.reach.proofs.Edits.{read-ok, write-ok}
 use Rattle.reach.proofs.Opens.{not-unsized, open-fair, may-open, free-seat, open-change, open-tells, open-within}
 use Rattle.reach.proofs.Begin as B

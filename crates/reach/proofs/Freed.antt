@@ -18,10 +18,11 @@ use Rattle.rules.specs.Answers.{ready, refused, kind}
 use Rattle.rules.specs.Plan.{freed}
 use Rattle.rules.specs.Advance.{heldLocks, released, letGo}
 use Rattle.rules.specs.declared.Answer.{Answer}
+use Rattle.rules.specs.declared.Answer.the-variants.{Done, Dropped, Aborted}
 use Rattle.rows.specs.Changed.{freeRow, free-at}
 use Rattle.rows.specs.Becomes.{becomes-freed}
 use Rattle.rows.specs.Released.{length-released}
-use Rattle.observer.specs.Observer.{Seen, unseen}
+use Rattle.observer.specs.Observer.{Seen, unseen, onAdvance, onAbandon}
 use Rattle.observer.proofs.Segments.{seg}
 use Rattle.observer.proofs.Entries.{readAt, writeAt}
 use Rattle.reach.specs.Invariants.{lockFrom, lockTo}
@@ -150,3 +151,16 @@ module _ (t : Tables) (s : ℕ) (f : Seen → Answer → Seen) (size : length (t
       released-hit (t .words) g n (k .0) x h (omega arith) (k .1 .named))
       (λ x h q. released-miss (t .words) g n x
       (λ i b z. named-none (writeItem g) (lockFrom g) (lockTo g) x i q (record { from = omega arith; below = omega arith; named = z })))
+
+-- the three answers that end one
+pub aborts : (n : ℕ) → Ends onAdvance (Aborted n)
+unfolding onAdvance
+aborts n = record { ends = λ x. refl; plain = λ e. omega arith; given = λ e. omega arith }
+
+pub drops : (n : ℕ) → Ends onAbandon (Dropped n)
+unfolding onAbandon
+drops n = record { ends = λ x. refl; plain = λ e. omega arith; given = λ e. omega arith }
+
+pub dones : (n : ℕ) → Ends onAdvance (Done n)
+unfolding onAdvance
+dones n = record { ends = λ x. refl; plain = λ e. omega arith; given = λ e. omega arith }

@@ -1,5 +1,5 @@
 -- Each step of an Advance.
-use Prim.Native.Nat.{ℕ, _+_, _-_, _*_, _<_, _≤_}
+use Prim.Native.Nat.{ℕ, _+_, _-_, _<_, _≤_}
 use mathlib.Core.Path.{_≡_, refl, sym, ap, _∙_}
 use mathlib.Core.Logic.{_≢_}
 use mathlib.Core.Bool.{Bool, true, false, cond, not, _&&_, _||_, and-true, and-false, true≢false}
@@ -14,43 +14,31 @@ use Rattle.rules.specs.Layout.{seatCount, seatsLength, positionAt, timeAt, writ
 use Rattle.rules.specs.Layout.{keptWrite, writeItem, writeValue}
 use Rattle.rules.specs.Places.{length-row}
 use Rattle.rules.specs.Tables.{Tables, after}
-use Rattle.rules.specs.Answers.{locked, stored, kind}
+use Rattle.rules.specs.Answers.{locked}
 use Rattle.rules.specs.Advance.{moved, lockStep, commitTime, timeStep, verdict, checkItem, judged, stretched, passed, ruled, checkStep}
 use Rattle.rules.specs.Advance.{sealStep, effect, storeStep, doneStep, lockPhase, checkPhase, storePhase, advanceIn}
 use Rattle.rules.specs.declared.Answer.{Answer}
-use Rattle.rules.specs.declared.Answer.the-variants.{Locked, Timed, Checked, Sealed, Stored, Done, Dropped, Aborted}
+use Rattle.rules.specs.declared.Answer.the-variants.{Locked, Timed, Checked, Sealed, Stored, Done, Aborted}
 use Rattle.rules.specs.declared.Verdict.{Verdict}
 use Rattle.rules.specs.declared.Verdict.the-variants.{Passes, Extends, Fails}
 use Rattle.rows.specs.Changed.{movedRow, Nudged, not-nudged, nudge-phase, nudge-position, nudge-time}
 use Rattle.rows.specs.Becomes.{Becomes, becomes-put, becomes-moved, then-put}
 use Rattle.rules.specs.CommitTime.{commit-kept}
-use Rattle.observer.specs.Observer.{oneMore, onAdvance, onAbandon}
+use Rattle.observer.specs.Observer.{onAdvance}
 use Rattle.observer.proofs.Segments.{length-seg}
-use Rattle.observer.proofs.Entries.{writeAt, writeEntries, nudged-at, nudged-reads, nudged-writes, nudged-firstReads, nudged-writeEntries}
+use Rattle.observer.proofs.Entries.{writeAt, writeEntries, nudged-at, nudged-writes}
 use Rattle.reach.specs.Invariants.{lockFrom, lockTo}
 use Rattle.reach.proofs.Tests.{by, or-true, or-false}
 use Rattle.reach.proofs.Count.{one, one-le}
-use Rattle.reach.proofs.InOrder.{Head, Used, locks, stepsTaken, lockCount}
-use Rattle.reach.proofs.Script.{script-length, NextKind, says-locked, says-timed, says-checked, says-sealed, says-stored, kind-next}
+use Rattle.reach.proofs.InOrder.{Head, Used, locks, lockCount}
+use Rattle.reach.proofs.Script.{says-locked, says-timed, says-checked, says-sealed, says-stored}
 use Rattle.reach.proofs.Named.{named-yes, named-no, named-same, locks-same, locks-none}
 use Rattle.reach.proofs.Rows.{nudged-owner, nudged-head, used-nudged, row-used, from-zero, from-four, to-early, to-late, steps-early}
 use Rattle.reach.proofs.Rows.{steps-three, steps-four, early-fits}
 use Rattle.reach.proofs.WithinPlan.{held-less}
-use Rattle.reach.proofs.Steps.{Follows, StaysTimely, seenOf, seen-as, left-four, left-none, Tells, Step, set-ind}
-use Rattle.reach.proofs.Freed.{Ends, free-step, lets-go}
-
--- the answers that end a transaction
-pub aborts : (n : ℕ) → Ends onAdvance (Aborted n)
-unfolding onAdvance
-aborts n = record { ends = λ x. refl; plain = λ e. omega arith; given = λ e. omega arith }
-
-pub drops : (n : ℕ) → Ends onAbandon (Dropped n)
-unfolding onAbandon
-drops n = record { ends = λ x. refl; plain = λ e. omega arith; given = λ e. omega arith }
-
-dones : (n : ℕ) → Ends onAdvance (Done n)
-unfolding onAdvance
-dones n = record { ends = λ x. refl; plain = λ e. omega arith; given = λ e. omega arith }
+use Rattle.reach.proofs.Steps.{Follows, StaysTimely, left-four, left-none, Tells, Step, set-ind}
+use Rattle.reach.proofs.Freed.{aborts, dones, free-step, lets-go}
+use Rattle.reach.proofs.Further.{tells-more}
 
 -- a verdict that extends, extends a word whose write time is the kept one
 by-tests : (a b : Bool) (o : Verdict) → cond a Passes (cond (not b) (Fails 22) o) ≡ Extends → b ≡ true
@@ -61,42 +49,6 @@ by-tests false false o e = absurd (let z : _≡_ {A = ℕ} 0 1 = cc in omega ari
 extends-kept : (wrote upTo tc word : ℕ) (own : Bool) → verdict wrote upTo tc word own ≡ Extends → writeTime word ≡ wrote
 unfolding verdict
 extends-kept wrote upTo tc word own e = eqb-true (writeTime word) wrote (by-tests (leb tc upTo) (eqb (writeTime word) wrote) _ e)
-
--- one Advance further, answered with a step's word
-record Further (g h : List ℕ) (k : ℕ) : Type 0 where
-  least : locked ≤ k
-  most : k ≤ stored
-  was-used : 1 ≤ phase g
-  is-used : 1 ≤ phase h
-  fits : stepsTaken g < 2 * writes g + reads g + 3
-  further : stepsTaken h ≡ stepsTaken g + 1
-
--- a nudge leaves the entries, and so what is written and read
-tells-more : {g h : List ℕ} {ph p tm : ℕ} (a : Answer) (b : Bool) (held : ℕ → Bool) (key left : ℕ) → Nudged g h ph p tm →
-    NextKind (writes g) (reads g) (stepsTaken g) (kind a) → Further g h (kind a) → eqb (phase h) 4 ≡ b → ((x : ℕ) → locks h x ≡ held x) → tm ≡ key →
-    cond (eqb (phase h) 4) (writes h - position h) 0 ≡ left → oneMore (seenOf g) a b held key left ≡ onAdvance (seenOf g) a → Tells onAdvance g h a
-tells-more {g} {h} a b held key left n x f e holds is-key is-left same =
-    let w = nudged-writes n in
-    let r = nudged-reads n in
-    let z = script-length (writes g) (reads g) in
-    let fits = f .fits in
-    record {
-      shown =
-          seen-as h (oneMore (seenOf g) a b held key left)
-          (record {
-            is-open = ap not (ne-eqb (phase h) 0 (let q = f .is-used in omega arith) ∙ sym (ne-eqb (phase g) 0 (let q = f .was-used in omega arith)));
-            is-holder = nudged-owner n;
-            is-advances = rw (f .further, w, r) (kind-next x (λ q. omega (arith, f .most)) (omega arith));
-            is-sealed = e;
-            shows = record { is-reads = nudged-firstReads n; is-writes = nudged-writeEntries n };
-            is-locked = holds;
-            is-key = n .is-time ∙ is-key;
-            is-left = is-left;
-          })
-          ∙ same;
-      fair = λ q. absurd (omega (arith, f .most));
-      plain = λ q. omega (arith, f .least);
-    }
 
 module _ (t : Tables) (s : ℕ) (size : length (t .seats) ≡ seatsLength) (small : s < seatCount) (u : Used (length (t .words)) (row (t .seats) s)) where
   abbrev g : List ℕ
