@@ -10,8 +10,9 @@ use Rattle.rules.specs.Calls.{Call, Setup, Open, Read, Write, Advance, Abandon}
 use Rattle.rules.specs.Answers.{ready, kind}
 use Rattle.rules.specs.declared.Answer.{Answer}
 use Rattle.rules.specs.declared.Answer.the-variants.{Refused}
-use Rattle.rows.specs.Fine.{cond-ind}
-use Rattle.observer.specs.Observer.{Seen, Observer, begunWith, onRead, onWrite, onAdvance, onAbandon, changed, seeing, observe, isSetup, begins}
+use Rattle.rows.specs.Fine.{cond-ind, both}
+use Rattle.observer.specs.Observer.{Seen, Observer, begunWith, onRead, onWrite, onAdvance, onAbandon, changed, seeing, observe}
+use Rattle.observer.specs.Observer.{isSetup, begins, isAdvance}
 
 pub changed-same : {A : Type 0} (k : ℕ) (a : A) (f : ℕ → A) → changed k a f k ≡ a
 unfolding changed
@@ -56,3 +57,13 @@ begins-is (Read o s item) a e = absurd (true≢false (sym e))
 begins-is (Write o s item v) a e = absurd (true≢false (sym e))
 begins-is (Advance o s) a e = absurd (true≢false (sym e))
 begins-is (Abandon o s) a e = absurd (true≢false (sym e))
+
+-- THE ADVANCE of a seat by an owner
+pub advance-is : (o s : ℕ) (c : Call) → isAdvance o s c ≡ true → c ≡ Advance o s
+unfolding isAdvance
+advance-is o s (Setup start plan) e = absurd (true≢false (sym e))
+advance-is o s (Open p) e = absurd (true≢false (sym e))
+advance-is o s (Read p j item) e = absurd (true≢false (sym e))
+advance-is o s (Write p j item v) e = absurd (true≢false (sym e))
+advance-is o s (Advance p j) e = let q = both (eqb p o) (eqb j s) e in rw (eqb-true p o (q .0), eqb-true j s (q .1)) refl
+advance-is o s (Abandon p j) e = absurd (true≢false (sym e))

@@ -184,7 +184,7 @@ unfoldable pub observed : Observer → List Event → Observer
 observed b [] = b
 observed b (e ∷ es) = observed (observe b (e .call) (e .answer)) es
 
--- 4. A SETUP THAT WAS ANSWERED READY
+-- 4. WHICH CALL IT IS
 unfoldable pub isSetup : Call → Bool
 isSetup (Setup start plan) = true
 isSetup (Open o) = false
@@ -193,6 +193,7 @@ isSetup (Write o s item v) = false
 isSetup (Advance o s) = false
 isSetup (Abandon o s) = false
 
+-- a Setup that was answered ready
 abbrev pub begins : Call → Answer → Bool
 begins c a = isSetup c && eqb (kind a) ready
 
@@ -202,3 +203,12 @@ NoSetup es = (e : Event) → In e es → begins (e .call) (e .answer) ≡ false
 
 abbrev pub SomeSetup : List Event → Type 0
 SomeSetup es = (e : Event) × In e es × (begins (e .call) (e .answer) ≡ true)
+
+-- whether a call is owner o's Advance of seat s
+unfoldable pub isAdvance : ℕ → ℕ → Call → Bool
+isAdvance o s (Setup start plan) = false
+isAdvance o s (Open p) = false
+isAdvance o s (Read p r item) = false
+isAdvance o s (Write p r item value) = false
+isAdvance o s (Advance p r) = eqb p o && eqb r s
+isAdvance o s (Abandon p r) = false

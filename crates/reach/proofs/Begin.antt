@@ -11,14 +11,14 @@ use Rattle.rules.specs.Tests.{sumTo}
 use Rattle.rules.specs.Layout.{owners, seatCount, planWidth, phaseAt, row, share}
 use Rattle.rules.specs.Tables.{Tables, tables}
 use Rattle.rules.specs.Plan.{badPlan, holds, held, claim, claims, laid}
-use Rattle.rows.specs.Begin.{Begun, length-laid, laid-at, laid-row}
+use Rattle.rows.specs.Begin.{SetupTaken, length-laid, laid-at, laid-row}
 use Rattle.reach.proofs.Count.{one, sum-same, count-none}
 use Rattle.reach.proofs.InOrder.{Zero, locks, InOrder}
 use Rattle.reach.proofs.Rows.{row-zero}
 use Rattle.reach.proofs.Freed.{locks-free}
 use Rattle.reach.proofs.WithinPlan.{planned, plan-same, heldBy, held-free}
 
-module _ (t : Tables) (start : ℕ) (plan : List ℕ) (b : Begun t start plan) where
+module _ (t : Tables) (start : ℕ) (plan : List ℕ) (b : SetupTaken t start plan) where
   abbrev seats : List ℕ
   seats = laid (replicate (length (t .seats)) 0) plan planWidth
 
@@ -28,12 +28,12 @@ module _ (t : Tables) (start : ℕ) (plan : List ℕ) (b : Begun t start plan) w
   as-long : length {A = ℕ} (replicate (length (t .seats)) 0) ≡ length (t .seats)
   as-long = length-replicate {A = ℕ} (length (t .seats)) 0
 
-  pub zeros : (s : ℕ) → Zero (row (laid (replicate (length (t .seats)) 0) plan planWidth) s)
-  zeros s f l = laid-row (length (t .seats)) plan s f l
+  pub rows-zero : (s : ℕ) → Zero (row (laid (replicate (length (t .seats)) 0) plan planWidth) s)
+  rows-zero s f l = laid-row (length (t .seats)) plan s f l
 
   none-held : (o : ℕ) → held (laid (replicate (length (t .seats)) 0) plan planWidth) o ≡ 0
   unfolding held holds heldBy
-  none-held o = count-none (holds seats o) seatCount (λ s h. held-free (row seats s) o (zeros s phaseAt (omega arith)))
+  none-held o = count-none (holds seats o) seatCount (λ s h. held-free (row seats s) o (rows-zero s phaseAt (omega arith)))
 
   word-at : (x : ℕ) → x < length (t .words) → getD (replicate (length (t .words)) (fresh start)) x 0 ≡ fresh start
   word-at x l = getD-replicate (length (t .words)) x (fresh start) 0 l
@@ -61,7 +61,7 @@ module _ (t : Tables) (start : ℕ) (plan : List ℕ) (b : Begun t start plan) w
           few = let q = z .few in omega arith;
           rows = length-laid (replicate (length (t .seats)) 0) plan planWidth ∙ lz ∙ z .rows;
         };
-        rows = λ s l. row-zero (length words) (zeros s);
+        rows = λ s l. row-zero (length words) (rows-zero s);
         within = record {
           plan = good-plan;
           limits = λ o l. let q = none-held o in omega arith;
@@ -73,6 +73,6 @@ module _ (t : Tables) (start : ℕ) (plan : List ℕ) (b : Begun t start plan) w
         };
         held-once = λ x l.
             let e : isLocked (getD words x 0) ≡ false = ap isLocked (word-at x (omega arith)) ∙ now .is-locked in
-            count-none (λ s. locks (row seats s) x) seatCount (λ s _. locks-free (row seats s) (zeros s) x) ∙ sym (ap one e);
+            count-none (λ s. locks (row seats s) x) seatCount (λ s _. locks-free (row seats s) (rows-zero s) x) ∙ sym (ap one e);
         timely = λ x l. rw (word-at x (omega arith), now .is-read) (b .start-in);
       }

@@ -19,15 +19,15 @@ use Rattle.rules.specs.Calls.{Call, Setup, Open, Read, Write, Advance, Abandon,
 use Rattle.rules.specs.declared.Answer.{Answer}
 use Rattle.rules.specs.declared.Answer.the-variants.{Ready, Refused, Dropped}
 use Rattle.rows.specs.Fine.{cond-ind, none-of, Fine, fine, item-in}
-use Rattle.rows.specs.Begin.{begun}
+use Rattle.rows.specs.Begin.{setup-taken}
 use Rattle.observer.specs.Observer.{Seen, Observer, givenTo, onAdvance, onAbandon, changed, observe}
 use Rattle.reach.proofs.Tests.{by, not-first}
 use Rattle.reach.proofs.InOrder.{Zero, Used, WithinPlan, InOrder}
 use Rattle.reach.proofs.Rows.{undamaged}
 use Rattle.reach.proofs.WithinPlan.{within-less}
 use Rattle.reach.proofs.Steps.{Change, Tells, Step, state-after}
-use Rattle.reach.proofs.Freed.{lets-go}
-use Rattle.reach.proofs.Moves.{drops, advance-ok}
+use Rattle.reach.proofs.Freed.{lets-go, drops}
+use Rattle.reach.proofs.Moves.{advance-ok}
 use Rattle.reach.proofs.Edits.{read-ok, write-ok}
 use Rattle.reach.proofs.Opens.{not-unsized, open-fair, may-open, free-seat, open-change, open-tells, open-within}
 use Rattle.reach.proofs.Begin as B
@@ -46,8 +46,8 @@ pub data Effect (t : Tables) (c : Call) (o : Outcome) : Type 0 where
       ((s : ℕ) → Zero (row (o .tables .seats) s)) → ((i : ℕ) → i < planWidth → getD (o .tables .seats) i 0 ≡ getD plan i 0) →
       Effect t c o
 
-either : (t : Tables) (c : Call) (why : ℕ) (o : Outcome) → why ≢ 3 → (why ≡ 0 → Effect t c o) → Effect t c (unless why t o)
-either t c why o d f = cond-ind (Effect t c) (eqb why 0) (λ e. f (eqb-true why 0 e)) (λ e. refuses why d refl)
+refused-or : (t : Tables) (c : Call) (why : ℕ) (o : Outcome) → why ≢ 3 → (why ≡ 0 → Effect t c o) → Effect t c (unless why t o)
+refused-or t c why o d f = cond-ind (Effect t c) (eqb why 0) (λ e. f (eqb-true why 0 e)) (λ e. refuses why d refl)
 
 -- A CALL THAT NAMES A SEAT
 pub seat-in : (o s : ℕ) (unknown : Bool) → misnamed o s unknown ≡ false → s < seatCount
@@ -79,44 +79,44 @@ never-three false false false = omega arith
 pub setup-effect : (t : Tables) (start : ℕ) (plan : List ℕ) → Effect t (Setup start plan) (setup t start plan)
 unfolding setup
 setup-effect t start plan =
-    either t (Setup start plan) (setupRefusal t start plan) _
+    refused-or t (Setup start plan) (setupRefusal t start plan) _
     (unfold setupRefusal in never-three (unsized (length (t .values)) (length (t .words)) (length (t .seats))) (ltb top start) (badPlan plan))
-    (λ e. let b = begun t start plan e in
+    (λ e. let b = setup-taken t start plan e in
     starts start plan refl refl (length-replicate (length (t .words)) (fresh start))
-    (B.laid-in-order t start plan b) (B.zeros t start plan b) (B.plan-laid t start plan b))
+    (B.laid-in-order t start plan b) (B.rows-zero t start plan b) (B.plan-laid t start plan b))
 
 -- ANY CALL
 pub effect-of : (t : Tables) → InOrder t → (c : Call) → Effect t c (step t c)
 unfolding step read write advance abandon openSeat observe
 effect-of t k (Setup start plan) = setup-effect t start plan
 effect-of t k (Open o) =
-    either t (Open o) (openRefusal t o) _ (open-fair t k o)
+    refused-or t (Open o) (openRefusal t o) _ (open-fair t k o)
     (λ e. let s : ℕ = freeSeat (t .seats) in
     let f = free-seat t k o e in
     let r = may-open t k o e in
     changes s (f .0) (λ x a. givenTo o) (record { seats = λ b. refl; plan = λ b. refl }) _
     (open-change t k o s (f .0) (f .1) (r .owner-in)) (open-within t k o s (f .0) (f .1) r) (open-tells t k o s (f .0) (f .1)))
 effect-of t k (Read o s x) =
-    either t (Read o s x) (recordRefusal t o s x working) (readIn t s x) (refusal-fair t k o s _ working)
+    refused-or t (Read o s x) (recordRefusal t o s x working) (readIn t s x) (refusal-fair t k o s _ working)
     (λ e. let f = fine t o s _ working e in
     let d : phase (row (t .seats) s) ≢ 0 = f .used in
     let p = f .phase-in in
     seat-effect t (Read o s x) s _ (readIn t s x) k (f .seat-in) (record { seats = λ b. refl; plan = λ b. refl })
     (read-ok t s k (used-of t k o s working f) (f .seat-in) (omega arith) x (item-in t o s x working e)))
 effect-of t k (Write o s x v) =
-    either t (Write o s x v) (recordRefusal t o s x working) (writeIn t s x v) (refusal-fair t k o s _ working)
+    refused-or t (Write o s x v) (recordRefusal t o s x working) (writeIn t s x v) (refusal-fair t k o s _ working)
     (λ e. let f = fine t o s _ working e in
     let d : phase (row (t .seats) s) ≢ 0 = f .used in
     let p = f .phase-in in
     seat-effect t (Write o s x v) s _ (writeIn t s x v) k (f .seat-in) (record { seats = λ b. refl; plan = λ b. refl })
     (write-ok t s k (used-of t k o s working f) (f .seat-in) (omega arith) x v (item-in t o s x working e)))
 effect-of t k (Advance o s) =
-    either t (Advance o s) (seatRefusal t o s storing) (advanceIn t s) (refusal-fair t k o s false storing)
+    refused-or t (Advance o s) (seatRefusal t o s storing) (advanceIn t s) (refusal-fair t k o s false storing)
     (λ e. let f = fine t o s false storing e in
     seat-effect t (Advance o s) s onAdvance (advanceIn t s) k (f .seat-in) (record { seats = λ b. refl; plan = λ b. refl })
     (advance-ok t s (k .sized .rows) (f .seat-in) (used-of t k o s storing f)))
 effect-of t k (Abandon o s) =
-    either t (Abandon o s) (seatRefusal t o s checking) (letGo t s (Dropped s)) (refusal-fair t k o s false checking)
+    refused-or t (Abandon o s) (seatRefusal t o s checking) (letGo t s (Dropped s)) (refusal-fair t k o s false checking)
     (λ e. let f = fine t o s false checking e in
     seat-effect t (Abandon o s) s onAbandon (letGo t s (Dropped s)) k (f .seat-in) (record { seats = λ b. refl; plan = λ b. refl })
     (lets-go t s onAbandon (k .sized .rows) (f .seat-in) (used-of t k o s checking f) (Dropped s) (drops s) (f .phase-in)))

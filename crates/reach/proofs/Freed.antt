@@ -18,17 +18,18 @@ use Rattle.rules.specs.Answers.{ready, refused, kind}
 use Rattle.rules.specs.Plan.{freed}
 use Rattle.rules.specs.Advance.{heldLocks, released, letGo}
 use Rattle.rules.specs.declared.Answer.{Answer}
+use Rattle.rules.specs.declared.Answer.the-variants.{Done, Dropped, Aborted}
 use Rattle.rows.specs.Changed.{freeRow, free-at}
 use Rattle.rows.specs.Becomes.{becomes-freed}
 use Rattle.rows.specs.Released.{length-released}
-use Rattle.observer.specs.Observer.{Seen, unseen}
+use Rattle.observer.specs.Observer.{Seen, unseen, onAdvance, onAbandon}
 use Rattle.observer.proofs.Segments.{seg}
 use Rattle.observer.proofs.Entries.{readAt, writeAt}
 use Rattle.reach.specs.Invariants.{lockFrom, lockTo}
 use Rattle.reach.specs.Life.{script}
 use Rattle.reach.proofs.Tests.{by}
 use Rattle.reach.proofs.Count.{one, one-le}
-use Rattle.reach.proofs.InOrder.{Zero, Used, locks, lockBit}
+use Rattle.reach.proofs.InOrder.{Zero, Used, locks, lockCount}
 use Rattle.reach.proofs.Named.{named-has, named-none, locks-none}
 use Rattle.reach.proofs.Rows.{row-zero, from-zero, to-early, to-held, steps-early}
 use Rattle.reach.proofs.WithinPlan.{held-free}
@@ -123,10 +124,10 @@ module _ (t : Tables) (s : ℕ) (f : Seen → Answer → Seen) (size : length (t
               let q0 : one (locks freeRow x) ≡ 0 = ap one (locks-free freeRow zero-row x) in
               by (locks g x)
               (λ q. let q1 : one (locks (row (t .seats) s) x) ≡ 1 = ap one q in
-              let r : lockBit words x ≡ 0 = ap one (ap isLocked (hit x h q) ∙ withLock-is false (getD (t .words) x 0) .is-locked) in
+              let r : lockCount words x ≡ 0 = ap one (ap isLocked (hit x h q) ∙ withLock-is false (getD (t .words) x 0) .is-locked) in
               let o = one-le (isLocked (getD (t .words) x 0)) in omega arith)
               (λ q. let q1 : one (locks (row (t .seats) s) x) ≡ 0 = ap one q in
-              let r : lockBit words x ≡ lockBit (t .words) x = ap (λ (k : ℕ). one (isLocked k)) (miss x h q) in omega arith);
+              let r : lockCount words x ≡ lockCount (t .words) x = ap (λ (k : ℕ). one (isLocked k)) (miss x h q) in omega arith);
           timely = λ x h le.
               by (locks g x)
               (λ q. rw (hit x h q, withLock-is false (getD (t .words) x 0) .is-read) le)
@@ -150,3 +151,16 @@ module _ (t : Tables) (s : ℕ) (f : Seen → Answer → Seen) (size : length (t
       released-hit (t .words) g n (k .0) x h (omega arith) (k .1 .named))
       (λ x h q. released-miss (t .words) g n x
       (λ i b z. named-none (writeItem g) (lockFrom g) (lockTo g) x i q (record { from = omega arith; below = omega arith; named = z })))
+
+-- the three answers that end one
+pub aborts : (n : ℕ) → Ends onAdvance (Aborted n)
+unfolding onAdvance
+aborts n = record { ends = λ x. refl; plain = λ e. omega arith; given = λ e. omega arith }
+
+pub drops : (n : ℕ) → Ends onAbandon (Dropped n)
+unfolding onAbandon
+drops n = record { ends = λ x. refl; plain = λ e. omega arith; given = λ e. omega arith }
+
+pub dones : (n : ℕ) → Ends onAdvance (Done n)
+unfolding onAdvance
+dones n = record { ends = λ x. refl; plain = λ e. omega arith; given = λ e. omega arith }

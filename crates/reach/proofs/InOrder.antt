@@ -73,8 +73,8 @@ pub record WithinPlan (seats : List ℕ) : Type 0 where
   pub limits : (o : ℕ) → o < owners → held seats o ≤ limit seats o
   pub claims-fit : claims seats ≤ seatCount
 
-abbrev pub lockBit : List ℕ → ℕ → ℕ
-lockBit words item = one (isLocked (getD words item 0))
+abbrev pub lockCount : List ℕ → ℕ → ℕ
+lockCount words item = one (isLocked (getD words item 0))
 
 -- how many seats hold a record
 abbrev pub holders : List ℕ → ℕ → ℕ
@@ -85,5 +85,5 @@ pub record InOrder (t : Tables) : Type 0 where
   pub rows : (s : ℕ) → s < seatCount → Row (length (t .words)) (row (t .seats) s)
   pub within : WithinPlan (t .seats)
   -- one seat holds a locked record, and none an unlocked one
-  pub held-once : (item : ℕ) → item < length (t .words) → holders (t .seats) item ≡ lockBit (t .words) item
+  pub held-once : (item : ℕ) → item < length (t .words) → holders (t .seats) item ≡ lockCount (t .words) item
   pub timely : (item : ℕ) → item < length (t .words) → readTime (getD (t .words) item 0) ≤ top

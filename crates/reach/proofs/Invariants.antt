@@ -91,8 +91,8 @@ module _ (t : Tables) (z : Reached t) where
       let g : List ℕ = row (t .seats) s in (
         reads-are t z s,
         λ i l. sym (seg-at (readItem g) (reads g) i l)
-            ∙ ap (λ (l : List ℕ). getD l i 0) (sym (seg-map (firstItem t) (readAt g) (reads g) 0))
-            ∙ ap (λ (x : Seen). getD (map (firstItem t) (x .reads)) i 0) (sym (seat-is t z s)),
+            ∙ ap (λ (l : List ℕ). getD l i 0) (sym (seg-map firstItem (readAt g) (reads g) 0))
+            ∙ ap (λ (x : Seen). getD (map firstItem (x .reads)) i 0) (sym (seat-is t z s)),
       )
 
   pub reads-in-range : ReadsInRange t

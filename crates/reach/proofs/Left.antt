@@ -34,9 +34,9 @@ each-answered t [] = refl
 each-answered t (c ∷ cs) = let e = each-answered (step t c .tables) cs in omega arith
 
 -- LETTING GO, in phases 1 to 3
-lets-go : (t : Tables) (o s last : ℕ) (a : Answer) → Fine t o s last → phase (row (t .seats) s) ≤ 3 → LetGo t (letGo t s a .tables) s
+leaves-let-go : (t : Tables) (o s last : ℕ) (a : Answer) → Fine t o s last → phase (row (t .seats) s) ≤ 3 → LetGo t (letGo t s a .tables) s
 unfolding letGo
-lets-go t o s last a f p =
+leaves-let-go t o s last a f p =
     let g : List ℕ = row (t .seats) s in
     let n : ℕ = heldLocks (row (t .seats) s) in
     let b = becomes-freed (t .seats) s (fine-row f) in
@@ -90,7 +90,7 @@ module _ (t : Tables) (o s : ℕ) (f : Fine t o s storing) where
 
   aborting : (n : ℕ) → phase (row (t .seats) s) ≤ 3 → Leaves t (Advance o s) (letGo t s (Aborted n))
   unfolding letGo
-  aborting n p = record { all = λ e. absurd (omega arith); gone = λ e. (o, s, refl, lets-go t o s storing (Aborted n) f p) }
+  aborting n p = record { all = λ e. absurd (omega arith); gone = λ e. (o, s, refl, leaves-let-go t o s storing (Aborted n) f p) }
 
   lock-leaves : phase (row (t .seats) s) ≤ 2 → Leaves t (Advance o s) (lockPhase t s)
   unfolding lockPhase lockStep timeStep
@@ -139,5 +139,5 @@ pub abandon-lets-go : AbandonLetsGo
 unfolding step abandon
 abandon-lets-go t o s =
     cond-ind (λ (z : Outcome). kind (z .answer) ≡ dropped → LetGo t (z .tables) s) (eqb (seatRefusal t o s checking) 0)
-    (λ q _. let f = fine t o s false checking (eqb-true _ _ q) in lets-go t o s checking (Dropped s) f (f .phase-in))
+    (λ q _. let f = fine t o s false checking (eqb-true _ _ q) in leaves-let-go t o s checking (Dropped s) f (f .phase-in))
     (λ _ z. absurd (omega arith))

@@ -10,6 +10,7 @@ pub mod WithinPlan
 -- what one call does to one row (Steps), call by call, and any call (Effects)
 pub mod Steps
 pub mod Freed
+pub mod Further
 pub mod Moves
 pub mod Inserted
 pub mod Edits
@@ -24,5 +25,6 @@ pub mod FairShare
 pub mod Life
 pub mod Refusals
 pub mod Progress
+pub mod Ending
 pub mod Left
 pub mod Storm

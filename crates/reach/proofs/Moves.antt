@@ -1,5 +1,5 @@
 -- Each step of an Advance.
-use Prim.Native.Nat.{ℕ, _+_, _-_, _*_, _<_, _≤_}
+use Prim.Native.Nat.{ℕ, _+_, _-_, _<_, _≤_}
 use mathlib.Core.Path.{_≡_, refl, sym, ap, _∙_}
 use mathlib.Core.Logic.{_≢_}
 use mathlib.Core.Bool.{Bool, true, false, cond, not, _&&_, _||_, and-true, and-false, true≢false}
@@ -13,45 +13,33 @@ use Rattle.clock.specs.Laws.{withLock-is, fresh-is, extended-is}
 use Rattle.rules.specs.Layout.{seatCount, seatsLength, positionAt, timeAt, writeItemAt, row, put, phase, position, reads, writes, time}
 use Rattle.rules.specs.Layout.{keptWrite, writeItem, writeValue}
 use Rattle.rules.specs.Places.{length-row}
-use Rattle.rules.specs.Tables.{Tables, answered, withSeats, tables, withWords}
-use Rattle.rules.specs.Answers.{locked, stored, kind}
-use Rattle.rules.specs.Advance.{moved, lockStep, commitTime, timeStep, verdict, checkItem, judged, stretched, passed, ruled, checkStep, byWord, versionGone}
-use Rattle.rules.specs.Advance.{passedTo}
+use Rattle.rules.specs.Tables.{Tables, answered, tables, withSeats, withWords}
+use Rattle.rules.specs.Answers.{locked}
+use Rattle.rules.specs.Advance.{moved, lockStep, commitTime, timeStep, verdict, checkItem, judged, stretched, passed, ruled, checkStep, passedTo, versionGone}
+use Rattle.rules.specs.Advance.{byWord}
 use Rattle.rules.specs.Advance.{sealStep, effect, storeStep, doneStep, lockPhase, checkPhase, storePhase, advanceIn}
 use Rattle.rules.specs.declared.Answer.{Answer}
-use Rattle.rules.specs.declared.Answer.the-variants.{Locked, Timed, Checked, Sealed, Stored, Done, Dropped, Aborted}
+use Rattle.rules.specs.declared.Answer.the-variants.{Locked, Timed, Checked, Sealed, Stored, Done, Aborted}
 use Rattle.rules.specs.declared.Verdict.{Verdict}
 use Rattle.rules.specs.declared.Verdict.the-variants.{Passes, Extends, Fails}
 use Rattle.rows.specs.Changed.{movedRow, Nudged, not-nudged, nudge-phase, nudge-position, nudge-time}
 use Rattle.rows.specs.Becomes.{Becomes, becomes-put, becomes-moved, then-put}
 use Rattle.rules.specs.CommitTime.{commit-kept}
-use Rattle.observer.specs.Observer.{oneMore, onAdvance, onAbandon}
+use Rattle.observer.specs.Observer.{onAdvance}
 use Rattle.observer.proofs.Segments.{length-seg}
-use Rattle.observer.proofs.Entries.{writeAt, writeEntries, nudged-at, nudged-reads, nudged-writes, nudged-firstReads, nudged-writeEntries}
+use Rattle.observer.proofs.Entries.{writeAt, writeEntries, nudged-at, nudged-writes}
 use Rattle.reach.specs.Invariants.{lockFrom, lockTo}
 use Rattle.reach.proofs.Tests.{by, or-true, or-false}
 use Rattle.reach.proofs.Count.{one, one-le}
-use Rattle.reach.proofs.InOrder.{Head, Used, locks, stepsTaken, lockBit}
-use Rattle.reach.proofs.Script.{script-length, NextKind, says-locked, says-timed, says-checked, says-sealed, says-stored, kind-next}
+use Rattle.reach.proofs.InOrder.{Head, Used, locks, lockCount}
+use Rattle.reach.proofs.Script.{says-locked, says-timed, says-checked, says-sealed, says-stored}
 use Rattle.reach.proofs.Named.{named-yes, named-no, named-same, locks-same, locks-none}
 use Rattle.reach.proofs.Rows.{nudged-owner, nudged-head, used-nudged, row-used, from-zero, from-four, to-early, to-late, steps-early}
 use Rattle.reach.proofs.Rows.{steps-three, steps-four, early-fits}
 use Rattle.reach.proofs.WithinPlan.{held-less}
-use Rattle.reach.proofs.Steps.{Follows, StaysTimely, seenOf, seen-as, left-four, left-none, Tells, Step, set-ind}
-use Rattle.reach.proofs.Freed.{Ends, free-step, lets-go}
-
--- the answers that end a transaction
-pub aborts : (n : ℕ) → Ends onAdvance (Aborted n)
-unfolding onAdvance
-aborts n = record { ends = λ x. refl; plain = λ e. omega arith; given = λ e. omega arith }
-
-pub drops : (n : ℕ) → Ends onAbandon (Dropped n)
-unfolding onAbandon
-drops n = record { ends = λ x. refl; plain = λ e. omega arith; given = λ e. omega arith }
-
-dones : (n : ℕ) → Ends onAdvance (Done n)
-unfolding onAdvance
-dones n = record { ends = λ x. refl; plain = λ e. omega arith; given = λ e. omega arith }
+use Rattle.reach.proofs.Steps.{Follows, StaysTimely, left-four, left-none, Tells, Step, set-ind}
+use Rattle.reach.proofs.Freed.{aborts, dones, free-step, lets-go}
+use Rattle.reach.proofs.Further.{tells-more}
 
 -- a verdict that extends, extends a word whose write time is the kept one
 by-tests : (a b : Bool) (o : Verdict) → cond a Passes (cond (not b) (Fails versionGone) o) ≡ Extends → b ≡ true
@@ -62,42 +50,6 @@ by-tests false false o e = absurd (let z : _≡_ {A = ℕ} 0 1 = cc in omega ari
 extends-kept : (keptW keptR time word : ℕ) (own : Bool) → verdict keptW keptR time word own ≡ Extends → writeTime word ≡ keptW
 unfolding verdict byWord
 extends-kept keptW keptR time word own e = eqb-true (writeTime word) keptW (by-tests (leb time keptR) (eqb (writeTime word) keptW) _ e)
-
--- one Advance further, answered with a step's word
-record Further (g h : List ℕ) (k : ℕ) : Type 0 where
-  least : locked ≤ k
-  most : k ≤ stored
-  was-used : 1 ≤ phase g
-  is-used : 1 ≤ phase h
-  fits : stepsTaken g < 2 * writes g + reads g + 3
-  further : stepsTaken h ≡ stepsTaken g + 1
-
--- a nudge leaves the entries, and so what is written and read
-tells-more : {g h : List ℕ} {ph p tm : ℕ} (a : Answer) (b : Bool) (held : ℕ → Bool) (key left : ℕ) → Nudged g h ph p tm →
-    NextKind (writes g) (reads g) (stepsTaken g) (kind a) → Further g h (kind a) → eqb (phase h) 4 ≡ b → ((x : ℕ) → locks h x ≡ held x) → tm ≡ key →
-    cond (eqb (phase h) 4) (writes h - position h) 0 ≡ left → oneMore (seenOf g) a b held key left ≡ onAdvance (seenOf g) a → Tells onAdvance g h a
-tells-more {g} {h} a b held key left n x f e holds is-key is-left same =
-    let w = nudged-writes n in
-    let r = nudged-reads n in
-    let z = script-length (writes g) (reads g) in
-    let fits = f .fits in
-    record {
-      shown =
-          seen-as h (oneMore (seenOf g) a b held key left)
-          (record {
-            is-open = ap not (ne-eqb (phase h) 0 (let q = f .is-used in omega arith) ∙ sym (ne-eqb (phase g) 0 (let q = f .was-used in omega arith)));
-            is-holder = nudged-owner n;
-            is-advances = rw (f .further, w, r) (kind-next x (λ q. omega (arith, f .most)) (omega arith));
-            is-sealed = e;
-            shows = record { is-reads = nudged-firstReads n; is-writes = nudged-writeEntries n };
-            is-locked = holds;
-            is-key = n .is-time ∙ is-key;
-            is-left = is-left;
-          })
-          ∙ same;
-      fair = λ q. absurd (omega (arith, f .most));
-      plain = λ q. omega (arith, f .least);
-    }
 
 module _ (t : Tables) (s : ℕ) (size : length (t .seats) ≡ seatsLength) (small : s < seatCount) (u : Used (length (t .words)) (row (t .seats) s)) where
   abbrev g : List ℕ
@@ -120,14 +72,15 @@ module _ (t : Tables) (s : ℕ) (size : length (t .seats) ≡ seatsLength) (smal
       }
 
   -- the same locks
-  still : (h : List ℕ) {ph p tm : ℕ} → Nudged g h ph p tm → lockFrom h ≡ lockFrom g → lockTo h ≡ lockTo g → (x : ℕ) → locks h x ≡ locks g x
-  still h n el et = locks-same g h el et (λ i _. nudged-at n (writeItemAt i) (omega arith))
+  same-locks : (h : List ℕ) {ph p tm : ℕ} → Nudged g h ph p tm → lockFrom h ≡ lockFrom g → lockTo h ≡ lockTo g → (x : ℕ) → locks h x ≡ locks g x
+  same-locks h n el et = locks-same g h el et (λ i _. nudged-at n (writeItemAt i) (omega arith))
 
-  still-checking : (h : List ℕ) {ph p tm : ℕ} → Nudged g h ph p tm → lockFrom h ≡ 0 → phase g ≡ 3 → 3 ≤ phase h → (x : ℕ) → locks h x ≡ locks g x
-  still-checking h n from e late = still h n (from ∙ sym (from-zero g (omega arith))) (to-late h late ∙ nudged-writes n ∙ sym (to-late g (omega arith)))
+  same-locks-checking : (h : List ℕ) {ph p tm : ℕ} → Nudged g h ph p tm → lockFrom h ≡ 0 → phase g ≡ 3 → 3 ≤ phase h → (x : ℕ) → locks h x ≡ locks g x
+  same-locks-checking h n from e late =
+      same-locks h n (from ∙ sym (from-zero g (omega arith))) (to-late h late ∙ nudged-writes n ∙ sym (to-late g (omega arith)))
 
   -- by words whose locks are the same
-  follows-same : (words h : List ℕ) → ((x : ℕ) → x < length (t .words) → lockBit words x ≡ lockBit (t .words) x) → ((x : ℕ) → locks h x ≡ locks g x) →
+  follows-same : (words h : List ℕ) → ((x : ℕ) → x < length (t .words) → lockCount words x ≡ lockCount (t .words) x) → ((x : ℕ) → locks h x ≡ locks g x) →
       Follows (t .words) words g h
   follows-same words h eb same x l le = let a = eb x l in let b : one (locks h x) ≡ one (locks g x) = ap one (same x) in omega arith
 
@@ -178,8 +131,8 @@ module _ (t : Tables) (s : ℕ) (size : length (t .seats) ≡ seatsLength) (smal
       (length-set (t .words) x (withLock true word))
       (omega arith)
       (λ k. absurd (omega arith))
-      (λ z l le. set-ind (λ v. one (isLocked v) + one (locks g z) ≡ lockBit (t .words) z + one (locks h z)) (t .words) x (withLock true word) z inside
-      (λ e. let b0 : lockBit (t .words) z ≡ 0 = ap one (ap (λ (j : ℕ). isLocked (getD (t .words) j 0)) (sym e) ∙ ap isLocked (sym ew) ∙ free) in
+      (λ z l le. set-ind (λ v. one (isLocked v) + one (locks g z) ≡ lockCount (t .words) z + one (locks h z)) (t .words) x (withLock true word) z inside
+      (λ e. let b0 : lockCount (t .words) z ≡ 0 = ap one (ap (λ (j : ℕ). isLocked (getD (t .words) j 0)) (sym e) ∙ ap isLocked (sym ew) ∙ free) in
       let b1 : one (isLocked (withLock true word)) ≡ 1 = ap one (now .is-locked) in
       let b2 : one (locks h z) ≡ 1 = ap one (ap (locks h) (sym e) ∙ taken) in
       omega arith)
@@ -208,7 +161,7 @@ module _ (t : Tables) (s : ℕ) (size : length (t .seats) ≡ seatsLength) (smal
       let pg = steps-early g p in
       let ph = steps-three h (n .is-phase) in
       let from = from-zero h (omega arith) ∙ sym (from-zero g (omega arith)) in
-      let same = still h n from (to-late h (omega arith) ∙ nudged-writes n ∙ sym e ∙ sym (to-early g p)) in
+      let same = same-locks h n from (to-late h (omega arith) ∙ nudged-writes n ∙ sym e ∙ sym (to-early g p)) in
       nudge-step (t .values) (t .words) (put (moved (t .seats) s 3 0) s timeAt tc) h (Timed tc)
       (then-put timeAt tc (omega arith) (becomes-moved (t .seats) s 3 0)) n refl refl
       (omega arith)
@@ -229,7 +182,7 @@ module _ (t : Tables) (s : ℕ) (size : length (t .seats) ≡ seatsLength) (smal
 
   -- PHASE 3
   pass-ok : phase g ≡ 3 → position g < reads g → (words : List ℕ) → length words ≡ length (t .words) →
-      ((x : ℕ) → x < length (t .words) → lockBit words x ≡ lockBit (t .words) x) → StaysTimely (t .words) words → Step t s onAdvance (passed t s words)
+      ((x : ℕ) → x < length (t .words) → lockCount words x ≡ lockCount (t .words) x) → StaysTimely (t .words) words → Step t s onAdvance (passed t s words)
   unfolding passed passedTo onAdvance
   pass-ok p b words ew eb et =
       let q : ℕ = position g + 1 in
@@ -240,7 +193,7 @@ module _ (t : Tables) (s : ℕ) (size : length (t .seats) ≡ seatsLength) (smal
       let ht = u .head .timely in
       let pg = steps-three g p in
       let ph = steps-three h (omega arith) in
-      let same = still-checking h n (from-zero h (omega arith)) p (omega arith) in
+      let same = same-locks-checking h n (from-zero h (omega arith)) p (omega arith) in
       nudge-step (t .values) words (put (t .seats) s positionAt q) h (Checked (checkItem g)) (becomes-put (t .seats) s positionAt q (omega arith)) n refl ew
       (omega arith)
       (u .not-below)
@@ -261,7 +214,7 @@ module _ (t : Tables) (s : ℕ) (size : length (t .seats) ≡ seatsLength) (smal
       let inside : x < length (t .words) = u .entries .read-in (position g) b in
       let now = extended-is word (time g) (omega arith) (u .head .timely) in
       pass-ok p b (set (t .words) x (extended word (time g))) (length-set (t .words) x (extended word (time g)))
-      (λ z l. set-ind (λ v. one (isLocked v) ≡ lockBit (t .words) z) (t .words) x (extended word (time g)) z inside
+      (λ z l. set-ind (λ v. one (isLocked v) ≡ lockCount (t .words) z) (t .words) x (extended word (time g)) z inside
       (λ q. ap one (now .is-locked ∙ ap (λ (j : ℕ). isLocked (getD (t .words) j 0)) q)) (λ d. refl))
       (λ z l le. set-ind (λ v. readTime v ≤ top) (t .words) x (extended word (time g)) z inside
       (λ q. rw (now .is-read) (u .head .timely)) (λ d. le))
@@ -278,7 +231,7 @@ module _ (t : Tables) (s : ℕ) (size : length (t .seats) ≡ seatsLength) (smal
       let ht = u .head .timely in
       let pg = steps-three g p in
       let ph = steps-four h (n .is-phase) in
-      let same = still-checking h n (from-four h (n .is-phase) ∙ n .is-position) p (omega arith) in
+      let same = same-locks-checking h n (from-four h (n .is-phase) ∙ n .is-position) p (omega arith) in
       let all-left : writes h - position h ≡ length (writeEntries g) = (let e = length-seg (writeAt g) (writes g) 0 in omega arith) in
       nudge-step (t .values) (t .words) (moved (t .seats) s 4 0) h (Sealed (time g)) (becomes-moved (t .seats) s 4 0) n refl refl
       (omega arith)
@@ -331,7 +284,7 @@ module _ (t : Tables) (s : ℕ) (size : length (t .seats) ≡ seatsLength) (smal
       (becomes-put (t .seats) s positionAt q (omega arith)) n (length-set (t .values) x v) (length-set (t .words) x f)
       (omega arith)
       (u .not-below)
-      (λ z l le. set-ind (λ v. one (isLocked v) + one (locks g z) ≡ lockBit (t .words) z + one (locks h z)) (t .words) x f z inside
+      (λ z l le. set-ind (λ v. one (isLocked v) + one (locks g z) ≡ lockCount (t .words) z + one (locks h z)) (t .words) x f z inside
       (λ e. let held : locks g z ≡ true =
       named-yes (writeItem g) (lockFrom g) (lockTo g) z (position g) (record { from = omega arith; below = omega arith; named = e }) in
       let b0 : one (locks g z) ≡ 1 = ap one held in

@@ -10,8 +10,9 @@ use lib.Dec.{leb, eqb}
 use Rattle.rules.specs.Tests.{first}
 use Rattle.rules.specs.Layout.{writeItem}
 use Rattle.rows.specs.Search.{first-hit}
+use Rattle.rows.specs.Fine.{both}
 use Rattle.reach.specs.Invariants.{lockFrom, lockTo, Names}
-use Rattle.reach.proofs.Tests.{by, both, same-test, some-any}
+use Rattle.reach.proofs.Tests.{by, same-test, some-any}
 use Rattle.reach.proofs.InOrder.{named, locks}
 
 pub named-yes : (e : ℕ → ℕ) (lo hi item i : ℕ) → Names e lo hi item i → named e lo hi item ≡ true

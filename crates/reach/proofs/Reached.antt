@@ -15,7 +15,7 @@ use Rattle.reach.proofs.InOrder.{Zero, InOrder}
 use Rattle.reach.proofs.Effects.{Effect, refuses, changes, starts, effect-of, setup-effect, after-effect, as-many, in-order-run}
 
 -- what answers ready has begun anew
-record Begun (c : Call) (o : Outcome) : Type 0 where
+record BegunAnew (c : Call) (o : Outcome) : Type 0 where
   start : ℕ
   plan : List ℕ
   is : c ≡ Setup start plan
@@ -24,7 +24,7 @@ record Begun (c : Call) (o : Outcome) : Type 0 where
   laid : (i : ℕ) → i < planWidth → getD (o .tables .seats) i 0 ≡ getD plan i 0
   told : o .answer ≡ Ready (length (o .tables .words))
 
-begun-anew : {t : Tables} {c : Call} (o : Outcome) → Effect t c o → kind (o .answer) ≡ ready → Begun c o
+begun-anew : {t : Tables} {c : Call} (o : Outcome) → Effect t c o → kind (o .answer) ≡ ready → BegunAnew c o
 begun-anew o (refuses n d e) r = absurd (let q : kind (o .answer) ≡ refused = ap (λ (z : Outcome). kind (z .answer)) e in omega arith)
 begun-anew o (changes s low f a h ch b told) r = absurd (told .plain r)
 begun-anew o (starts start plan q e m b z p) r = record { start = start; plan = plan; is = q; in-order = b; zeros = z; laid = p; told = e ∙ ap Ready (sym m) }

@@ -57,21 +57,21 @@ exactly-iff {a} {n} x m = (
 of-due : {a : Answer} {n m : ℕ} → n ≡ m → Exactly a n → Exactly a m
 of-due {a} e x = subst (Exactly a) e x
 
-given : (a : Answer) → kind a ≢ refused → Exactly a 0
-given a d = record { if-due = λ q. absurd (q refl); else-not = λ q. d }
+exactly-none : (a : Answer) → kind a ≢ refused → Exactly a 0
+exactly-none a d = record { if-due = λ q. absurd (q refl); else-not = λ q. d }
 
-refusing : (n : ℕ) → n ≢ 0 → Exactly (Refused n) n
-refusing n d = record { if-due = λ q. refl; else-not = λ q. absurd (d q) }
+exactly-refused : (n : ℕ) → n ≢ 0 → Exactly (Refused n) n
+exactly-refused n d = record { if-due = λ q. refl; else-not = λ q. absurd (d q) }
 
 -- the first number that is due, and then what the outcome is refused for
-guarded : (why m : ℕ) (t : Tables) (o : Outcome) → (why ≡ 0 → Exactly (o .answer) m) → Exactly (unless why t o .answer) (orElse why m)
-guarded why m t o f = by (eqb why 0) (λ e. rw e (f (eqb-true why 0 e))) (λ e. rw e (refusing why (eqb-false why 0 e)))
+exactly-unless : (why m : ℕ) (t : Tables) (o : Outcome) → (why ≡ 0 → Exactly (o .answer) m) → Exactly (unless why t o .answer) (orElse why m)
+exactly-unless why m t o f = by (eqb why 0) (λ e. rw e (f (eqb-true why 0 e))) (λ e. rw e (exactly-refused why (eqb-false why 0 e)))
 
-guarded-only : (why : ℕ) (t : Tables) (o : Outcome) → (why ≡ 0 → kind (o .answer) ≢ refused) → Exactly (unless why t o .answer) why
-guarded-only why t o f =
+exactly-only : (why : ℕ) (t : Tables) (o : Outcome) → (why ≡ 0 → kind (o .answer) ≢ refused) → Exactly (unless why t o .answer) why
+exactly-only why t o f =
     by (eqb why 0)
-    (λ e. let q = eqb-true why 0 e in rw (e, q) (given (o .answer) (f q)))
-    (λ e. rw e (refusing why (eqb-false why 0 e)))
+    (λ e. let q = eqb-true why 0 e in rw (e, q) (exactly-none (o .answer) (f q)))
+    (λ e. rw e (exactly-refused why (eqb-false why 0 e)))
 
 -- one is counted exactly where one passes
 any-count : (p : ℕ → Bool) (n : ℕ) (b : Bool) → count p n ≡ one b → any p n ≡ b
@@ -149,18 +149,18 @@ module _ (t : Tables) (z : Reached t) where
   read-exact s x inside =
       let g : List ℕ = row (t .seats) s in
       rw (held-is x inside, ← reads-are t z s, seat-is t z s, sees-known g (seenOf g) (row-shows g) x)
-      (by (ltb (writeOf g x) (writes g)) (λ e. rw e (given _ (λ q. omega arith)))
-      (λ e0. rw e0 (by (ltb (readOf g x) (reads g)) (λ e. rw e (given _ (λ q. omega arith)))
-      (λ e1. rw e1 (by (leb mostReads (reads g)) (λ e. rw e (refusing 8 (omega arith)))
-      (λ e2. rw e2 (by (isLocked (getD (t .words) x 0)) (λ e. rw e (refusing 10 (omega arith))) (λ e. rw e (given _ (λ q. omega arith))))))))))
+      (by (ltb (writeOf g x) (writes g)) (λ e. rw e (exactly-none _ (λ q. omega arith)))
+      (λ e0. rw e0 (by (ltb (readOf g x) (reads g)) (λ e. rw e (exactly-none _ (λ q. omega arith)))
+      (λ e1. rw e1 (by (leb mostReads (reads g)) (λ e. rw e (exactly-refused 8 (omega arith)))
+      (λ e2. rw e2 (by (isLocked (getD (t .words) x 0)) (λ e. rw e (exactly-refused 10 (omega arith))) (λ e. rw e (exactly-none _ (λ q. omega arith))))))))))
 
   write-exact : (s x v : ℕ) → Exactly (writeIn t s x v .answer) (writeDue (records z) (seen z) s x)
   unfolding writeIn writeDue
   write-exact s x v =
       let g : List ℕ = row (t .seats) s in
       rw (← writes-are t z s, seat-is t z s, sees-write g (seenOf g) (row-shows g) x)
-      (by (ltb (writeOf g x) (writes g)) (λ e. rw e (given _ (λ q. omega arith)))
-      (λ e. rw e (by (leb mostWrites (writes g)) (λ q. rw q (refusing 9 (omega arith))) (λ q. rw q (given _ (λ y. omega arith))))))
+      (by (ltb (writeOf g x) (writes g)) (λ e. rw e (exactly-none _ (λ q. omega arith)))
+      (λ e. rw e (by (leb mostWrites (writes g)) (λ q. rw q (exactly-refused 9 (omega arith))) (λ q. rw q (exactly-none _ (λ y. omega arith))))))
 
   -- OPEN
   claims-are : claims (t .seats) ≡ claimed (records z) (seen z)
@@ -201,21 +201,21 @@ module _ (t : Tables) (z : Reached t) where
   -- ANY CALL
   pub exact : (c : Call) → Exactly (step t c .answer) (due (records z) (seen z) c)
   unfolding step due setup openSeat read write advance abandon letGo
-  exact (Setup start plan) = of-due (setup-is start plan) (guarded-only (setupRefusal t start plan) t _ (λ e q. omega arith))
-  exact (Open o) = of-due (open-is o) (guarded-only (openRefusal t o) t _ (λ e q. omega arith))
+  exact (Setup start plan) = of-due (setup-is start plan) (exactly-only (setupRefusal t start plan) t _ (λ e q. omega arith))
+  exact (Open o) = of-due (open-is o) (exactly-only (openRefusal t o) t _ (λ e q. omega arith))
   exact (Read o s x) =
       of-due (ap (λ (n : ℕ). orElse n (readDue (records z) (seen z) s x)) (record-is o s x))
-      (guarded (recordRefusal t o s x working) _ t (readIn t s x) (λ e. read-exact s x (item-in t o s x working e)))
+      (exactly-unless (recordRefusal t o s x working) _ t (readIn t s x) (λ e. read-exact s x (item-in t o s x working e)))
   exact (Write o s x v) =
       of-due (ap (λ (n : ℕ). orElse n (writeDue (records z) (seen z) s x)) (record-is o s x))
-      (guarded (recordRefusal t o s x working) _ t (writeIn t s x v) (λ e. write-exact s x v))
+      (exactly-unless (recordRefusal t o s x working) _ t (writeIn t s x v) (λ e. write-exact s x v))
   exact (Advance o s) =
       of-due (advance-is o s)
-      (guarded-only (seatRefusal t o s storing) t (advanceIn t s)
+      (exactly-only (seatRefusal t o s storing) t (advanceIn t s)
       (λ e. kind-given (advance-kind t s (used-of t k o s storing (fine t o s false storing e)))))
   exact (Abandon o s) =
       of-due (abandon-is o s)
-      (guarded-only (seatRefusal t o s checking) t (letGo t s (Dropped s)) (λ e q. omega arith))
+      (exactly-only (seatRefusal t o s checking) t (letGo t s (Dropped s)) (λ e q. omega arith))
 
 -- EVERY REFUSAL, EXACTLY WHEN IT IS DUE
 pub every-refusal : (t : Tables) → EveryRefusal t

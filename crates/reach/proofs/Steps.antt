@@ -21,14 +21,14 @@ use Rattle.observer.proofs.Shows.{Shows}
 use Rattle.reach.specs.Life.{script}
 use Rattle.reach.proofs.Tests.{by}
 use Rattle.reach.proofs.Count.{one, count-change, count-has}
-use Rattle.reach.proofs.InOrder.{Row, locks, stepsTaken, WithinPlan, lockBit, InOrder}
+use Rattle.reach.proofs.InOrder.{Row, locks, stepsTaken, WithinPlan, lockCount, InOrder}
 use Rattle.reach.proofs.WithinPlan.{heldBy}
 
 -- a record's lock goes with the hold on it of the row that was g and is h
 abbrev pub Follows : (words words′ g h : List ℕ) → Type 0
 Follows words words′ g h =
-    (item : ℕ) → item < length words → one (locks g item) ≤ lockBit words item →
-    lockBit words′ item + one (locks g item) ≡ lockBit words item + one (locks h item)
+    (item : ℕ) → item < length words → one (locks g item) ≤ lockCount words item →
+    lockCount words′ item + one (locks g item) ≡ lockCount words item + one (locks h item)
 
 -- no read time comes to be above T
 abbrev pub StaysTimely : (words words′ : List ℕ) → Type 0

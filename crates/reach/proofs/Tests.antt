@@ -15,10 +15,6 @@ pub by : {A : Type 0} (b : Bool) → (b ≡ true → A) → (b ≡ false → A) 
 by true f g = f refl
 by false f g = g refl
 
-pub both : (a b : Bool) → a && b ≡ true → (a ≡ true) × (b ≡ true)
-both true b e = (refl, e)
-both false b e = (e, absurd (true≢false (sym e)))
-
 -- the second test counts only where the first holds
 pub only-where : (a b : Bool) → (a ≡ true → b ≡ false) → a && b ≡ false
 only-where true b h = h refl

@@ -54,6 +54,10 @@ AlwaysSized t = Sized t
 abbrev pub NeverDamaged : Tables → Type 0
 NeverDamaged t = (s : ℕ) → s < seatCount → damaged (rowOf t s) (length (t .words)) ≡ false
 
+-- the record of a first read
+abbrev pub firstItem : FirstRead → ℕ
+firstItem e = e .item
+
 -- ENTRIES. Write entries stand in strictly ascending record number, read entries name distinct records, and all of them name records
 module _ (t : Tables) where
   abbrev pub InUse : ℕ → Type 0
@@ -64,10 +68,6 @@ module _ (t : Tables) where
 
   abbrev pub ReadsDistinct : Type 0
   ReadsDistinct = (s i j : ℕ) → InUse s → i < j → j < reads (rowOf t s) → readItem (rowOf t s) i ≢ readItem (rowOf t s) j
-
-  -- the record of a first read
-  abbrev pub firstItem : FirstRead → ℕ
-  firstItem e = e .item
 
   -- read entries stand in order of first read, as calls and answers tell it: there are as many as records first read, and each names the one at its place
   abbrev pub ReadsInOrder : Reached t → Type 0

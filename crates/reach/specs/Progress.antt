@@ -3,16 +3,15 @@
 use Prim.Native.Nat.{ℕ, _<_}
 use mathlib.Core.Path.{_≡_}
 use mathlib.Core.Logic.{_≢_, _⊎_}
-use mathlib.Core.Bool.{Bool, true, false, cond, _&&_}
+use mathlib.Core.Bool.{true, false, cond}
 use mathlib.Core.List.{List, [], _∷_, _++_}
-use lib.Dec.{eqb}
 use lib.ListN.{length, take, replicate}
 use Rattle.rules.specs.Layout.{seatCount}
 use Rattle.rules.specs.Tables.{Tables}
 use Rattle.rules.specs.Answers.{sealed, stored, done, refused, kind}
-use Rattle.rules.specs.Calls.{Call, Setup, Open, Read, Write, Advance, Abandon, step, Event, history}
+use Rattle.rules.specs.Calls.{Call, Advance, Abandon, step, Event, history}
 use Rattle.rules.specs.declared.Answer.the-variants.{Dropped}
-use Rattle.observer.specs.Observer.{Seen, NoSetup}
+use Rattle.observer.specs.Observer.{Seen, isAdvance, NoSetup}
 use Rattle.reach.specs.Reached.{Reached, seen}
 use Rattle.reach.specs.Counts.{writeCount}
 use Rattle.reach.specs.Life.{advanced}
@@ -28,15 +27,6 @@ pub record Progress (t : Tables) (s : ℕ) (x : Seen) : Type 0 where
 
 abbrev pub ProgressOfEach : Tables → Type 0
 ProgressOfEach t = (z : Reached t) (s : ℕ) → s < seatCount → Progress t s (seen z .seats s)
-
--- whether a call is owner o's Advance of seat s
-unfoldable pub isAdvance : ℕ → ℕ → Call → Bool
-isAdvance o s (Setup start plan) = false
-isAdvance o s (Open p) = false
-isAdvance o s (Read p r item) = false
-isAdvance o s (Write p r item value) = false
-isAdvance o s (Advance p r) = eqb p o && eqb r s
-isAdvance o s (Abandon p r) = false
 
 -- the words that owner o's Advances of seat s were answered with, in order
 unfoldable pub advancesOf : ℕ → ℕ → List Event → List ℕ

@@ -21,21 +21,21 @@ use Rattle.rows.specs.Changed.{all-zero}
 use Rattle.rows.specs.Fine.{cond-ind, Sized, sized-of}
 
 -- what it has found
-pub record Begun (t : Tables) (start : ℕ) (plan : List ℕ) : Type 0 where
+pub record SetupTaken (t : Tables) (start : ℕ) (plan : List ℕ) : Type 0 where
   pub sized : Sized t
   pub start-in : start ≤ top
   pub plan-good : badPlan plan ≡ false
 
-pub begun : (t : Tables) (start : ℕ) (plan : List ℕ) → setupRefusal t start plan ≡ 0 → Begun t start plan
+pub setup-taken : (t : Tables) (start : ℕ) (plan : List ℕ) → setupRefusal t start plan ≡ 0 → SetupTaken t start plan
 unfolding setupRefusal
-begun t start plan =
+setup-taken t start plan =
     cond-ind Q (unsized (length (t .values)) (length (t .words)) (length (t .seats))) (λ _ e. absurd (omega arith))
     (λ a. cond-ind Q (ltb top start) (λ _ e. absurd (omega arith))
     (λ b. cond-ind Q (badPlan plan) (λ _ e. absurd (omega arith))
     (λ c _. record { sized = sized-of t a; start-in = ltb-false _ _ b; plan-good = c })))
   where
     Q : ℕ → Type 0
-    Q n = n ≡ 0 → Begun t start plan
+    Q n = n ≡ 0 → SetupTaken t start plan
 
 -- it answers ready only where it is not refused
 pub setup-ready : (t : Tables) (start : ℕ) (plan : List ℕ) → kind (setup t start plan .answer) ≡ ready → setupRefusal t start plan ≡ 0

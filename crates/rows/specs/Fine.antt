@@ -1,8 +1,8 @@
 -- What is known of a row that is not damaged, and of a call that names a seat and is not refused.
 use Prim.Native.Nat.{ℕ, zero, suc, _≤_, _<_}
-use mathlib.Core.Path.{_≡_, refl}
+use mathlib.Core.Path.{_≡_, refl, sym}
 use mathlib.Core.Logic.{_≢_}
-use mathlib.Core.Bool.{Bool, true, false, cond, _||_, true≢false}
+use mathlib.Core.Bool.{Bool, true, false, cond, _&&_, _||_, true≢false}
 use mathlib.Core.List.{List, [], _∷_}
 use native.Mathlib.Omega.{arith}
 use borrow.Author.Tests.{ltb-false, eqb-true, not-false, le-leb, leb-false, eqb-false, ne-eqb}
@@ -22,6 +22,11 @@ use Rattle.rows.specs.Search.{none-at}
 pub cond-ind : {A : Type 0} (Q : A → Type 0) (b : Bool) {x y : A} → (b ≡ true → Q x) → (b ≡ false → Q y) → Q (cond b x y)
 cond-ind Q true f g = f refl
 cond-ind Q false f g = g refl
+
+-- two tests that both hold
+pub both : (a b : Bool) → a && b ≡ true → (a ≡ true) × (b ≡ true)
+both true b e = (refl, e)
+both false b e = (e, absurd (true≢false (sym e)))
 
 -- none of a list of tests holds
 abbrev pub Each : List Bool → Type 0

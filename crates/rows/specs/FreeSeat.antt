@@ -26,12 +26,12 @@ module _ (seats : List ℕ) where
   counted s h = simp (ne-eqb _ _ h, eq-eqb (owner (row seats s)) (owner (row seats s)) refl)
 
   -- the first n rows, none of them free and each with an owner, are held by the owners
-  all-held : (n : ℕ) → ((s : ℕ) → s < n → phase (row seats s) ≢ 0) → ((s : ℕ) → s < n → owner (row seats s) < owners) →
+  used-held : (n : ℕ) → ((s : ℕ) → s < n → phase (row seats s) ≢ 0) → ((s : ℕ) → s < n → owner (row seats s) < owners) →
       n ≤ sumTo (λ o. count (holds seats o) n) owners
   unfolding count
-  all-held zero busy own = omega arith
-  all-held (suc n) busy own =
-      let i = all-held n (λ s l. busy s (omega arith)) (λ s l. own s (omega arith)) in
+  used-held zero busy own = omega arith
+  used-held (suc n) busy own =
+      let i = used-held n (λ s l. busy s (omega arith)) (λ s l. own s (omega arith)) in
       let a = sum-add (λ o. count (holds seats o) n) (λ o. cond (holds seats o n) 1 0) owners in
       let b = sum-has (λ o. cond (holds seats o n) 1 0) (owner (row seats n)) owners (own n (omega arith)) in
       let d = counted n (busy n (omega arith)) in
@@ -49,7 +49,7 @@ module _ (seats : List ℕ) where
   unfolding unsound crowded claims
   no-room o l e q f =
       let r = none-of _ e in
-      let all : seatCount ≤ sumTo (held seats) owners = (unfold held in all-held seatCount (busy-at f) (λ s h. owned-at (r .1 .0) s h (busy-at f s h))) in
+      let all : seatCount ≤ sumTo (held seats) owners = (unfold held in used-held seatCount (busy-at f) (λ s h. owned-at (r .1 .0) s h (busy-at f s h))) in
       let u : claims seats ≤ seatCount = ltb-false seatCount (claims seats) (r .1 .1 .1 .0) in
       go all u (leb (share seats o) (held seats o)) refl
     where

@@ -77,12 +77,13 @@ abbrev pub StaysMirrored : Values → Observer → Call → Outcome → Type 0
 StaysMirrored opening b c z = Mirrored opening (z .tables) (observe b c (z .answer))
 
 -- a refusal shows nothing new
-pub refused : (opening : Values) (t : Tables) (b : Observer) → Mirrored opening t b → (c : Call) (why : ℕ) → StaysMirrored opening b c (answered (Refused why) t)
-refused opening t b now c why = rw (refusal-shows b c why) now
+pub refused-stays : (opening : Values) (t : Tables) (b : Observer) → Mirrored opening t b → (c : Call) (why : ℕ) →
+    StaysMirrored opening b c (answered (Refused why) t)
+refused-stays opening t b now c why = rw (refusal-shows b c why) now
 
-pub unless-ok : (opening : Values) (t : Tables) (b : Observer) → Mirrored opening t b → (c : Call) (why : ℕ) (z : Outcome) →
+pub unless-stays : (opening : Values) (t : Tables) (b : Observer) → Mirrored opening t b → (c : Call) (why : ℕ) (z : Outcome) →
     (why ≡ 0 → StaysMirrored opening b c z) → StaysMirrored opening b c (unless why t z)
-unless-ok opening t b now c why z h = cond-ind (StaysMirrored opening b c) (eqb why 0) (λ e. h (eqb-true why 0 e)) (λ _. refused opening t b now c why)
+unless-stays opening t b now c why z h = cond-ind (StaysMirrored opening b c) (eqb why 0) (λ e. h (eqb-true why 0 e)) (λ _. refused-stays opening t b now c why)
 
 -- WHAT IS TO BE SHOWN of a change
 -- one record's value and word change

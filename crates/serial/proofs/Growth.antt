@@ -110,7 +110,7 @@ module _ (opening : Values) where
           }
 
   -- WHAT IS TO BE SHOWN OF A STEP of seat s, which becomes the seat given
-  pub step : (σ : State) (S : List Transaction) (c : ℕ → Version) (s : ℕ) (seat : Seat) → Inv opening σ →
+  pub step-inv : (σ : State) (S : List Transaction) (c : ℕ → Version) (s : ℕ) (seat : Seat) → Inv opening σ →
       Sorted S → Right S opening →
       ((item : ℕ) → VersionOk opening S item (c item)) →
       ((item : ℕ) → Grows (σ .order) S item (σ .version item) (c item)) →
@@ -119,7 +119,7 @@ module _ (opening : Values) where
       KeyIsTime seat → ((T : Transaction) → In T S → T .key ≡ T .time) →
       ((item j : ℕ) → c item .holder ≡ some j → Holds (changed s seat (σ .seat) j) item) →
       Inv opening (record { order = S; version = c; seat = changed s seat (σ .seat) })
-  step σ S c s seat h so ri ve grow st se at ti ho =
+  step-inv σ S c s seat h so ri ve grow st se at ti ho =
       record {
         sorted = so;
         right = ri;
@@ -144,7 +144,7 @@ module _ (opening : Values) where
       ((item : ℕ) → Holds (σ .seat s) item → Holds seat item) →
       Inv opening (record { order = σ .order; version = σ .version; seat = changed s seat (σ .seat) })
   step-seat σ s seat h se at ho =
-      step σ (σ .order) (σ .version) s seat h (h .sorted) (h .right) (h .versions)
+      step-inv σ (σ .order) (σ .version) s seat h (h .sorted) (h .right) (h .versions)
       (λ item. grows-none (σ .order) item (σ .version item))
       (λ j n item. stays-none j (σ .order) item (σ .version item))
       se at (h .by-time .sealed) (λ item. keep-holds σ s seat h item (ho item))
@@ -164,7 +164,7 @@ module _ (opening : Values) where
       ((q j : ℕ) → changed item x (σ .version) q .holder ≡ some j → Holds (changed s seat (σ .seat) j) q) →
       Inv opening (record { order = σ .order; version = changed item x (σ .version); seat = changed s seat (σ .seat) })
   step-version σ s seat item x h ve grow st se at ho =
-      step σ (σ .order) (changed item x (σ .version)) s seat h (h .sorted) (h .right)
+      step-inv σ (σ .order) (changed item x (σ .version)) s seat h (h .sorted) (h .right)
       (changed-ind (VersionOk opening (σ .order)) item x (σ .version) ve (λ q n. h .versions q))
       (grows-one σ item x grow)
       (λ j n. changed-ind (λ q y. Stays j (σ .order) (σ .order) q (σ .version q) y) item x (σ .version) (st j n)

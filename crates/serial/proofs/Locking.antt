@@ -24,11 +24,11 @@ use Rattle.observer.proofs.Entries.{writeAt, writeEntries}
 use Rattle.serial.specs.Statement.{Values}
 use Rattle.serial.proofs.Protocol.{Stamp, ReadEntry, working, checking, Fits, Below}
 use Rattle.serial.proofs.Versions.{withHolder}
-use Rattle.serial.proofs.Steps.{reseat, reversion, locks, times}
+use Rattle.serial.proofs.Steps.{reseat, reversion, locks-inv, times-inv}
 use Rattle.observer.proofs.Segments.{seg, seg-more, seg-whole, seg-in}
 use Rattle.serial.proofs.View.{entryAt, readEntries, seatOf, view-early, nudged-view}
 use Rattle.serial.proofs.Agree.{WordShows, Mirrored, StaysMirrored, words-show-set, seen-nudged, agree-seeing}
-use Rattle.serial.proofs.Release.{lock-shows, abort-ok}
+use Rattle.serial.proofs.Release.{lock-shows, abort-stays}
 
 module _ (opening : Values) (t : Tables) (b : Observer) (now : Mirrored opening t b) (o s last : ℕ) (fi : Fine t o s last)
     (phase12 : phase (row (t .seats) s) ≤ 2) where
@@ -62,7 +62,7 @@ module _ (opening : Values) (t : Tables) (b : Observer) (now : Mirrored opening 
       let n = nudge-position (nudge-phase (not-nudged g (fine-row fi)) 2) (p + 1) in
       record {
         σ = reseat (reversion (now .σ) (w .item) y) s (working (readEntries g) (seg (writeAt g) 0 p ++ (w ∷ [])));
-        inv = locks opening (now .σ) (now .inv) s (readEntries g) (seg (writeAt g) 0 p) w is-working (m .idle u);
+        inv = locks-inv opening (now .σ) (now .inv) s (readEntries g) (seg (writeAt g) 0 p) w is-working (m .idle u);
         agree =
             agree-seeing (now .agree) (tables (t .values) (set (t .words) (w .item) (withLock true word)) (moved (t .seats) s 2 (p + 1)))
             (changed (w .item) y (now .σ .version)) s _ (movedRow g 2 (p + 1))
@@ -106,7 +106,7 @@ module _ (opening : Values) (t : Tables) (b : Observer) (now : Mirrored opening 
         let n = nudge-time (nudge-position (nudge-phase (not-nudged g (fine-row fi)) 3) 0) tc in
         record {
           σ = reseat (now .σ) s (checking stamp [] (readEntries g) (writeEntries g));
-          inv = times opening (now .σ) (now .inv) s stamp (readEntries g) (writeEntries g) (is-working ∙ rw all) refl fits below;
+          inv = times-inv opening (now .σ) (now .inv) s stamp (readEntries g) (writeEntries g) (is-working ∙ rw all) refl fits below;
           agree =
               agree-seeing (now .agree) (tables (t .values) (t .words) (put (moved (t .seats) s 3 0) s timeAt tc)) (now .σ .version) s _
               (set (movedRow g 3 0) timeAt tc) refl refl (now .agree .shown)
@@ -115,11 +115,11 @@ module _ (opening : Values) (t : Tables) (b : Observer) (now : Mirrored opening 
               (λ _. seen-nudged n (b .seats s) x (now .agree .seen s (fi .used)) refl refl (λ q. absurd (omega arith)));
         }
 
-  pub lock-ok : StaysMirrored opening b (Advance o s) (lockPhase t s)
+  pub lock-stays : StaysMirrored opening b (Advance o s) (lockPhase t s)
   unfolding lockPhase lockStep timeStep observe onAdvance
-  lock-ok =
+  lock-stays =
       cond-ind (StaysMirrored opening b (Advance o s)) (ltb (position g) (writes g))
       (λ l. cond-ind (StaysMirrored opening b (Advance o s)) (isLocked (getD (t .words) item 0))
-      (λ _. abort-ok opening t b now o s last fi 21 (omega arith)) (λ u. lock-mirrored (ltb-true _ _ l) u))
+      (λ _. abort-stays opening t b now o s last fi 21 (omega arith)) (λ u. lock-mirrored (ltb-true _ _ l) u))
       (λ l. cond-ind (StaysMirrored opening b (Advance o s)) (ltb top (commitTime (t .words) g))
-      (λ _. abort-ok opening t b now o s last fi 24 (omega arith)) (λ _. time-mirrored (omega (arith, low, ltb-false (position g) (writes g) l))))
+      (λ _. abort-stays opening t b now o s last fi 24 (omega arith)) (λ _. time-mirrored (omega (arith, low, ltb-false (position g) (writes g) l))))

@@ -28,7 +28,7 @@ use Rattle.observer.proofs.Changes.{changed-same, changed-other}
 use Rattle.serial.specs.Statement.{Values}
 use Rattle.serial.proofs.Protocol.{Version, ReadEntry, State, free, working, Inv}
 use Rattle.serial.proofs.Versions.{withHolder}
-use Rattle.serial.proofs.Steps.{reseat, reversion, retreats, unlocks, leaves}
+use Rattle.serial.proofs.Steps.{reseat, reversion, retreats-inv, unlocks-inv, leaves-inv}
 use Rattle.observer.proofs.Segments.{seg, seg-next, seg-end, seg-whole}
 use Rattle.observer.proofs.Entries.{writeAt, writeEntries}
 use Rattle.serial.proofs.View.{readEntries, seatOf, view-early, view-checking}
@@ -72,7 +72,7 @@ module _ (opening : Values) (values words g : List ℕ) (s m : ℕ) (rs : List R
       let in-words : w .item < length words′ = rw (length-released words g n) (known n h) in
       record {
         to = reseat (reversion (p .to) (w .item) (withHolder none x)) s seat;
-        inv = unlocks opening (p .to) (p .inv) s rs (seg (writeAt g) (n + 1) (m - (n + 1))) w (p .left ∙ rw (seg-next (writeAt g) n m h));
+        inv = unlocks-inv opening (p .to) (p .inv) s rs (seg (writeAt g) (n + 1) (m - (n + 1))) w (p .left ∙ rw (seg-next (writeAt g) n m h));
         shown = words-show-set (p .to .version) values words′ values (w .item) (withLock false word) (withHolder none x) (p .shown) (λ j d. refl) in-words
             (lock-shows none false x (getD values (w .item) 0) word (p .shown (w .item) in-words) (λ _. refl));
         order = p .order;
@@ -93,7 +93,7 @@ gone opening t b now s n rs σ inv shown o other e known size =
     let be = becomes-freed (t .seats) s size in
     record {
       σ = reseat (p .to) s free;
-      inv = leaves opening (p .to) (p .inv) s rs (p .left ∙ rw (seg-end (writeAt g) n n (omega arith)));
+      inv = leaves-inv opening (p .to) (p .inv) s rs (p .left ∙ rw (seg-end (writeAt g) n n (omega arith)));
       agree =
           agree-others t _ (p .to) b (seeing b s unseen) s (λ j d. p .others j d ∙ other j d ∙ now .agree .rows j) (now .agree .seen) (p .to .order)
           (p .to .version) free freeRow
@@ -110,29 +110,29 @@ module _ (opening : Values) (t : Tables) (b : Observer) (now : Mirrored opening 
   known : (i : ℕ) → i < writes g → writeItem g i < length (t .words)
   known i l = write-item g (length (t .words)) (fi .sound) i l
 
-  early : phase g ≤ 2 → Mirrored opening (tables (t .values) (released (t .words) g (position g)) (freed (t .seats) s)) (seeing b s unseen)
-  early l =
+  from-early : phase g ≤ 2 → Mirrored opening (tables (t .values) (released (t .words) g (position g)) (freed (t .seats) s)) (seeing b s unseen)
+  from-early l =
       let low : position g ≤ writes g = position-low g (length (t .words)) (fi .sound) (fi .used) l in
       gone opening t b now s (position g) (readEntries g) (now .σ) (now .inv) (now .agree .shown) refl (λ j n. refl)
       (now .agree .rows s ∙ view-early (b .seats s .key) g (fi .used) l) (λ i m. known i (omega arith)) (fine-row fi)
 
-  checked : phase g ≡ 3 → Mirrored opening (tables (t .values) (released (t .words) g (writes g)) (freed (t .seats) s)) (seeing b s unseen)
-  checked e =
+  from-checking : phase g ≡ 3 → Mirrored opening (tables (t .values) (released (t .words) g (writes g)) (freed (t .seats) s)) (seeing b s unseen)
+  from-checking e =
       let seat = working [] (writeEntries g) in
       gone opening t b now s (writes g) [] (reseat (now .σ) s seat)
-      (retreats opening (now .σ) (now .inv) s _ _ _ (writeEntries g) (now .agree .rows s ∙ view-checking (b .seats s .key) g e))
+      (retreats-inv opening (now .σ) (now .inv) s _ _ _ (writeEntries g) (now .agree .rows s ∙ view-checking (b .seats s .key) g e))
       (now .agree .shown) refl (λ j n. changed-other s seat (now .σ .seat) j n) (changed-same s seat (now .σ .seat)) known (fine-row fi)
 
   let-go : (a : Answer) → phase g ≤ 3 → Mirrored opening (letGo t s a .tables) (seeing b s unseen)
   unfolding letGo heldLocks
   let-go a l =
       cond-ind (λ (n : ℕ). Mirrored opening (tables (t .values) (released (t .words) g n) (freed (t .seats) s)) (seeing b s unseen)) (eqb (phase g) 3)
-      (λ e. checked (eqb-true _ _ e)) (λ e. let d : phase g ≢ 3 = eqb-false _ _ e in early (omega arith))
+      (λ e. from-checking (eqb-true _ _ e)) (λ e. let d : phase g ≢ 3 = eqb-false _ _ e in from-early (omega arith))
 
-  pub abort-ok : (why : ℕ) → phase g ≤ 3 → StaysMirrored opening b (Advance o s) (letGo t s (Aborted why))
+  pub abort-stays : (why : ℕ) → phase g ≤ 3 → StaysMirrored opening b (Advance o s) (letGo t s (Aborted why))
   unfolding letGo observe onAdvance
-  abort-ok why l = let-go (Aborted why) l
+  abort-stays why l = let-go (Aborted why) l
 
-  pub drop-ok : phase g ≤ 3 → StaysMirrored opening b (Abandon o s) (letGo t s (Dropped s))
+  pub drop-stays : phase g ≤ 3 → StaysMirrored opening b (Abandon o s) (letGo t s (Dropped s))
   unfolding letGo observe onAbandon
-  drop-ok l = let-go (Dropped s) l
+  drop-stays l = let-go (Dropped s) l

@@ -12,7 +12,7 @@ use Rattle.serial.proofs.Order.{in-ranked, sorted-ranked}
 use Rattle.serial.proofs.Timeline.{Named, Absent, find, distinct-same, written-named, upto-below, upto-absent, upto-above, right-ranked}
 use Rattle.serial.proofs.Protocol.{Stamp, Due, Version, ReadEntry, State, checking, storing, closed, Below, none-some, some-same}
 use Rattle.serial.proofs.Protocol.{val, VersionOk, CheckingOk, Inv}
-use Rattle.serial.proofs.Growth.{Grows, Stays, stays-other, step, keep-holds}
+use Rattle.serial.proofs.Growth.{Grows, Stays, stays-other, step-inv, keep-holds}
 use Rattle.serial.proofs.Versions.{quiet}
 
 -- what its reader was firstReadOf
@@ -51,19 +51,19 @@ module _ (opening : Values) (S : List Transaction) (c : ℕ → Version) (so : S
   named-early item p u q = let z : u ≤ c item .upTo = (rw (named-idle item p) at q) in omega (arith, named-below item p .key)
 
   -- the run's values: below its key, from its key on, and of what it does not write
-  below : (item u : ℕ) → u < t .key → val opening (ranked T S) item u ≡ val opening S item u
-  below item u p = upto-below T S u item (opening item) p
+  run-below : (item u : ℕ) → u < t .key → val opening (ranked T S) item u ≡ val opening S item u
+  run-below item u p = upto-below T S u item (opening item) p
 
-  above : (item : ℕ) (p : Named item ws) (u : ℕ) → t .key ≤ u → val opening (ranked T S) item u ≡ applied (p .0) (c item .value)
-  above item p u q =
+  run-above : (item : ℕ) (p : Named item ws) (u : ℕ) → t .key ≤ u → val opening (ranked T S) item u ≡ applied (p .0) (c item .value)
+  run-above item p u q =
       let b = named-below item p .key in
       let m = ve item .range in
       upto-above T S u item (opening item) q so (λ U i l w j e. let z = named-early item p (U .key) (ve item .writers U i w j e) in omega arith)
       ∙ written-named ws (p .0) item (val opening S item u) (h .distinct) (p .1) (p .2)
       ∙ ap (applied (p .0)) (quiet opening S item (c item) (ve item) (named-idle item p) u (omega arith))
 
-  aside : (item : ℕ) → Absent item ws → (u : ℕ) → val opening (ranked T S) item u ≡ val opening S item u
-  aside item a u = upto-absent T S u item (opening item) a
+  run-aside : (item : ℕ) → Absent item ws → (u : ℕ) → val opening (ranked T S) item u ≡ val opening S item u
+  run-aside item a u = upto-absent T S u item (opening item) a
 
   -- ITS READS have passed
   read-closed : (item : ℕ) → Absent item ws → (e : FirstRead) → In e (T .reads) → e .item ≡ item → t .key ≤ closed (c item)
@@ -88,8 +88,8 @@ module _ (opening : Values) (S : List Transaction) (c : ℕ → Version) (so : S
         wrote-low = ve item .wrote-low;
         due-below = λ d e. rw (is d e) (record { key = named-below item p .key; time = named-below item p .time });
         due-held = λ e. absurd (none-some (c item .holder) s e (named-mine item p));
-        up-to-due = λ u a b. below item u (b (record { stamp = t; entry = p .0 }) refl) ∙ quiet opening S item (c item) (ve item) (named-idle item p) u a;
-        from-due = λ u a. above item p u a;
+        up-to-due = λ u a b. run-below item u (b (record { stamp = t; entry = p .0 }) refl) ∙ quiet opening S item (c item) (ve item) (named-idle item p) u a;
+        from-due = λ u a. run-above item p u a;
         readers = λ U i e j q. ⊎-elim (λ (z : U ≡ T). rw z (omega arith))
             (λ (z : In U S). let y = named-early item p (U .key) (ve item .readers U z e j q) in omega arith) (in-ranked T S U i);
         writers = λ U i w j q. ⊎-elim (λ (z : U ≡ T). rw z (omega arith))
@@ -104,8 +104,8 @@ module _ (opening : Values) (S : List Transaction) (c : ℕ → Version) (so : S
         wrote-low = ve item .wrote-low;
         due-below = ve item .due-below;
         due-held = ve item .due-held;
-        up-to-due = λ u p q. aside item a u ∙ ve item .up-to-due u p q;
-        from-due = λ u p. aside item a u ∙ ve item .from-due u p;
+        up-to-due = λ u p q. run-aside item a u ∙ ve item .up-to-due u p q;
+        from-due = λ u p. run-aside item a u ∙ ve item .from-due u p;
         readers = λ U i e j q. ⊎-elim (λ (z : U ≡ T). rw z (read-closed item a e (rw z at j) q)) (λ (z : In U S). ve item .readers U z e j q)
             (in-ranked T S U i);
         writers = λ U i w j q. ⊎-elim (λ (z : U ≡ T). absurd (a w (rw z at j) q)) (λ (z : In U S). ve item .writers U z w j q) (in-ranked T S U i);
@@ -118,18 +118,18 @@ module _ (opening : Values) (S : List Transaction) (c : ℕ → Version) (so : S
         newer = omega arith;
         longer = omega arith;
         wider = rw (named-idle item p) (omega arith);
-        past = λ u q. below item u (named-early item p u q);
+        past = λ u q. run-below item u (named-early item p u q);
         same-value = λ q. refl;
         same-from = λ q. refl;
       }
   marked-grows item (inr a) =
-      record { newer = omega arith; longer = omega arith; wider = omega arith; past = λ u q. aside item a u; same-value = λ q. refl; same-from = λ q. refl }
+      record { newer = omega arith; longer = omega arith; wider = omega arith; past = λ u q. run-aside item a u; same-value = λ q. refl; same-from = λ q. refl }
 
   marked-stays : (j : ℕ) → j ≢ s → (item : ℕ) (d : Named item ws ⊎ Absent item ws) → Stays opening j S (ranked T S) item (c item) (marked t d (c item))
   marked-stays j n item (inl p) =
       stays-other opening j S (ranked T S) item (c item) _ (λ e. n (some-same (c item .holder) j s e (named-mine item p)))
   marked-stays j n item (inr a) =
-      record { same-holder = λ q. q; same-wrote = λ q. refl; same-upTo = λ q. refl; same-due = λ q. refl; same-run = λ q u. aside item a u }
+      record { same-holder = λ q. q; same-wrote = λ q. refl; same-upTo = λ q. refl; same-due = λ q. refl; same-run = λ q u. run-aside item a u }
 
   -- ITS STORES
   marked-mine : (w : WriteEntry) → In w ws → (d : Named (w .item) ws ⊎ Absent (w .item) ws) → marked t d (c (w .item)) .holder ≡ some s
@@ -142,14 +142,14 @@ module _ (opening : Values) (S : List Transaction) (c : ℕ → Version) (so : S
   marked-due w i (inr a) = absurd (a w i refl)
 
 -- THE STEP
-abbrev pub sealed : State → ℕ → Stamp → List ReadEntry → List WriteEntry → State
-sealed σ s t ok ws =
+abbrev pub sealedState : State → ℕ → Stamp → List ReadEntry → List WriteEntry → State
+sealedState σ s t ok ws =
     record { order = ranked (transactionOf t ok ws) (σ .order); version = allMarked t ws (σ .version); seat = changed s (storing t ws) (σ .seat) }
 
 pub seal-inv : (opening : Values) (σ : State) (s : ℕ) (t : Stamp) (ok : List ReadEntry) (ws : List WriteEntry) → σ .seat s ≡ checking t ok [] ws →
-    Inv opening σ → Inv opening (sealed σ s t ok ws)
+    Inv opening σ → Inv opening (sealedState σ s t ok ws)
 seal-inv opening σ s t ok ws e h =
-    step opening σ (ranked (transactionOf t ok ws) (σ .order)) (allMarked t ws (σ .version)) s (storing t ws) h
+    step-inv opening σ (ranked (transactionOf t ok ws) (σ .order)) (allMarked t ws (σ .version)) s (storing t ws) h
     (sorted-ranked (transactionOf t ok ws) (σ .order) (h .sorted))
     (seal-right opening (σ .order) (σ .version) (h .sorted) (h .versions) s t ok ws ck (h .right))
     (λ item. marked-ok opening (σ .order) (σ .version) (h .sorted) (h .versions) s t ok ws ck item (find item ws))

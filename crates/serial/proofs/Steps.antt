@@ -15,7 +15,8 @@ use Rattle.serial.proofs.Protocol.{Stamp, Version, ReadEntry, Seat, Sta
 use Rattle.serial.proofs.Protocol.{none-some, some-same, VersionOk, EntryOk, Covered, WorkingOk, CheckingOk, StoringOk, Inv}
 use Rattle.serial.proofs.Protocol.{upTo-closed}
 use Rattle.serial.proofs.Growth.{stays-other, entry-later, keep-holds, step-seat, grows-one, step-version, step-unheld}
-use Rattle.serial.proofs.Versions.{withHolder, extended, stored, quiet, holder-ok, holder-grows, extended-ok, extended-grows, stored-ok, stored-grows}
+use Rattle.serial.proofs.Versions.{withHolder, reaching, overwritten, quiet, holder-ok, holder-grows, reaching-ok, reaching-grows}
+use Rattle.serial.proofs.Versions.{overwritten-ok, overwritten-grows}
 
 -- the state with another seat, and with another version
 abbrev pub reseat : State → ℕ → Seat → State
@@ -72,20 +73,20 @@ module _ (opening : Values) where
         ⊎-elim (λ (q : l .0 ≡ w). absurd (m (sym (l .2) ∙ ap (λ (z : WriteEntry). z .item) q))) (λ (j : In (l .0) ws). (l .0, j, l .2)) (uncons (l .1))
 
     -- WRITE: nothing that the protocol sees
-    pub rests : Inv opening (reseat σ s (σ .seat s))
-    rests = step-seat opening σ s (σ .seat s) h (h .seats s) (h .by-time .seats s) (λ item z. z)
+    pub rests-inv : Inv opening (reseat σ s (σ .seat s))
+    rests-inv = step-seat opening σ s (σ .seat s) h (h .seats s) (h .by-time .seats s) (λ item z. z)
 
     -- OPEN
-    pub opens : σ .seat s ≡ free → Inv opening (reseat σ s (working [] []))
+    pub opens-inv : σ .seat s ≡ free → Inv opening (reseat σ s (working [] []))
     unfolding Distinct
-    opens e =
+    opens-inv e =
         step-seat opening σ s (working [] []) h (record { entries = λ z i. absurd (not-nil i); held = λ z i. absurd (not-nil i); distinct = tt }) tt
         (rw e (λ item z. absurd z))
 
     -- READ
-    pub reads : (rs : List ReadEntry) (ws : List WriteEntry) (item : ℕ) → σ .seat s ≡ working rs ws →
+    pub reads-inv : (rs : List ReadEntry) (ws : List WriteEntry) (item : ℕ) → σ .seat s ≡ working rs ws →
         Inv opening (reseat σ s (working (rs ++ (entryOf item (σ .version item) ∷ [])) ws))
-    reads rs ws item e =
+    reads-inv rs ws item e =
         let w : WorkingOk opening (σ .order) (σ .version) s rs ws = rw e at (h .seats s) in
         let new = entryOf item (σ .version item) in
         step-seat opening σ s (working (rs ++ (new ∷ [])) ws) h
@@ -99,9 +100,9 @@ module _ (opening : Values) where
         (rw e (λ q z. z))
 
     -- LOCK
-    pub locks : (rs : List ReadEntry) (ws : List WriteEntry) (w : WriteEntry) → σ .seat s ≡ working rs ws → σ .version (w .item) .holder ≡ none →
+    pub locks-inv : (rs : List ReadEntry) (ws : List WriteEntry) (w : WriteEntry) → σ .seat s ≡ working rs ws → σ .version (w .item) .holder ≡ none →
         Inv opening (reseat (reversion σ (w .item) (withHolder (some s) (σ .version (w .item)))) s (working rs (ws ++ (w ∷ []))))
-    locks rs ws w e o =
+    locks-inv rs ws w e o =
         let wo : WorkingOk opening (σ .order) (σ .version) s rs ws = rw e at (h .seats s) in
         let item = w .item in
         let x = σ .version item in
@@ -127,10 +128,10 @@ module _ (opening : Values) where
         (rw e (λ q n z. (z .0, append-left (w ∷ []) (z .1), z .2))))
 
     -- TIME
-    pub times : (t : Stamp) (rs : List ReadEntry) (ws : List WriteEntry) → σ .seat s ≡ working rs ws → t .key ≡ t .time →
+    pub times-inv : (t : Stamp) (rs : List ReadEntry) (ws : List WriteEntry) → σ .seat s ≡ working rs ws → t .key ≡ t .time →
         ((e : ReadEntry) → In e rs → Fits (σ .version (e .told .item)) t e) → ((w : WriteEntry) → In w ws → Below (σ .version (w .item)) t) →
         Inv opening (reseat σ s (checking t [] rs ws))
-    times t rs ws e timed a b =
+    times-inv t rs ws e timed a b =
         let w : WorkingOk opening (σ .order) (σ .version) s rs ws = rw e at (h .seats s) in
         step-seat opening σ s (checking t [] rs ws) h
         (record { passed = λ z i. absurd (not-nil i); entries = w .entries; fits = a; held = w .held; below = b; distinct = w .distinct })
@@ -155,29 +156,29 @@ module _ (opening : Values) where
         (rw q at (h .by-time .seats s))
         (rw q (λ r z. z))
 
-    pub passes : (t : Stamp) (ok rs : List ReadEntry) (ws : List WriteEntry) (e : ReadEntry) → σ .seat s ≡ checking t ok (e ∷ rs) ws →
+    pub passes-inv : (t : Stamp) (ok rs : List ReadEntry) (ws : List WriteEntry) (e : ReadEntry) → σ .seat s ≡ checking t ok (e ∷ rs) ws →
         Passes (σ .version (e .told .item)) t ws e →
         Inv opening (reseat σ s (checking t (ok ++ (e ∷ [])) rs ws))
-    passes t ok rs ws e q p =
+    passes-inv t ok rs ws e q p =
         let w : CheckingOk opening (σ .order) (σ .version) s t ok (e ∷ rs) ws = rw q at (h .seats s) in
         covers t ok rs ws e q
         (pass-covered (σ .order) (σ .version (e .told .item)) t ws e (h .versions (e .told .item)) (w .entries e (here refl)) (w .fits e (here refl))
         (λ i. rw (i .2) at (w .held (i .0) (i .1) .idle)) p)
 
     -- STORE
-    pub stores : (t : Stamp) (ws : List WriteEntry) (w : WriteEntry) → σ .seat s ≡ storing t (w ∷ ws) →
-        Inv opening (reseat (reversion σ (w .item) (stored t w (σ .version (w .item)))) s (storing t ws))
+    pub stores-inv : (t : Stamp) (ws : List WriteEntry) (w : WriteEntry) → σ .seat s ≡ storing t (w ∷ ws) →
+        Inv opening (reseat (reversion σ (w .item) (overwritten t w (σ .version (w .item)))) s (storing t ws))
     unfolding Distinct
-    stores t ws w e =
+    stores-inv t ws w e =
         let so : StoringOk opening (σ .version) s t (w ∷ ws) = rw e at (h .seats s) in
         let item = w .item in
         let x = σ .version item in
-        let y = stored t w x in
+        let y = overwritten t w x in
         let due = so .due w (here refl) in
         let timed : t .key ≡ t .time = rw e at (h .by-time .seats s) in
         step-version opening σ s (storing t ws) item y h
-        (stored-ok opening (σ .order) item x (h .versions item) t w due timed)
-        (stored-grows opening (σ .order) item x (h .versions item) t w due)
+        (overwritten-ok opening (σ .order) item x (h .versions item) t w due timed)
+        (overwritten-grows opening (σ .order) item x (h .versions item) t w due)
         (λ j n. stays-other opening j (σ .order) (σ .order) item x y (λ q. n (some-same (x .holder) j s q (so .mine w (here refl)))))
         (record {
           mine = λ v i. rw (changed-other item y (σ .version) (v .item) (so .distinct .0 v i)) (so .mine v (there i));
@@ -188,19 +189,19 @@ module _ (opening : Values) where
         (others-hold (storing t ws) item y (λ j z. absurd (none-some {A = ℕ} none j refl z)) (rw e (fewer w ws)))
 
     -- DONE
-    pub finishes : (t : Stamp) → σ .seat s ≡ storing t [] → Inv opening (reseat σ s free)
-    finishes t e = step-seat opening σ s free h tt tt (rw e (λ item z. absurd (not-nil (z .1))))
+    pub finishes-inv : (t : Stamp) → σ .seat s ≡ storing t [] → Inv opening (reseat σ s free)
+    finishes-inv t e = step-seat opening σ s free h tt tt (rw e (λ item z. absurd (not-nil (z .1))))
 
     -- AN ABORT, or Abandon: back to work, then lock by lock, and out
-    pub retreats : (t : Stamp) (ok rs : List ReadEntry) (ws : List WriteEntry) → σ .seat s ≡ checking t ok rs ws → Inv opening (reseat σ s (working [] ws))
-    retreats t ok rs ws e =
+    pub retreats-inv : (t : Stamp) (ok rs : List ReadEntry) (ws : List WriteEntry) → σ .seat s ≡ checking t ok rs ws → Inv opening (reseat σ s (working [] ws))
+    retreats-inv t ok rs ws e =
         let w : CheckingOk opening (σ .order) (σ .version) s t ok rs ws = rw e at (h .seats s) in
         step-seat opening σ s (working [] ws) h (record { entries = λ z i. absurd (not-nil i); held = w .held; distinct = w .distinct }) tt (rw e (λ item z. z))
 
-    pub unlocks : (rs : List ReadEntry) (ws : List WriteEntry) (w : WriteEntry) → σ .seat s ≡ working rs (w ∷ ws) →
+    pub unlocks-inv : (rs : List ReadEntry) (ws : List WriteEntry) (w : WriteEntry) → σ .seat s ≡ working rs (w ∷ ws) →
         Inv opening (reseat (reversion σ (w .item) (withHolder none (σ .version (w .item)))) s (working rs ws))
     unfolding Distinct
-    unlocks rs ws w e =
+    unlocks-inv rs ws w e =
         let wo : WorkingOk opening (σ .order) (σ .version) s rs (w ∷ ws) = rw e at (h .seats s) in
         let item = w .item in
         let x = σ .version item in
@@ -217,24 +218,24 @@ module _ (opening : Values) where
         tt
         (others-hold (working rs ws) item y (λ j z. absurd (none-some {A = ℕ} none j refl z)) (rw e (fewer w ws)))
 
-    pub leaves : (rs : List ReadEntry) → σ .seat s ≡ working rs [] → Inv opening (reseat σ s free)
-    leaves rs e = step-seat opening σ s free h tt tt (rw e (λ item z. absurd (not-nil (z .1))))
+    pub leaves-inv : (rs : List ReadEntry) → σ .seat s ≡ working rs [] → Inv opening (reseat σ s free)
+    leaves-inv rs e = step-seat opening σ s free h tt tt (rw e (λ item z. absurd (not-nil (z .1))))
 
   -- CHECK that extends, one step: the version is still the one that was read and nobody holds it; `wrote` is its write time from now on
-  pub renews : (σ : State) → Inv opening σ → (s : ℕ) (t : Stamp) (ok rs : List ReadEntry) (ws : List WriteEntry) (e : ReadEntry) (wrote : ℕ) →
+  pub renews-inv : (σ : State) → Inv opening σ → (s : ℕ) (t : Stamp) (ok rs : List ReadEntry) (ws : List WriteEntry) (e : ReadEntry) (wrote : ℕ) →
       σ .seat s ≡ checking t ok (e ∷ rs) ws →
       σ .version (e .told .item) .holder ≡ none → σ .version (e .told .item) .wrote ≡ e .wrote → e .wrote ≤ wrote → σ .version (e .told .item) .upTo ≤ t .key →
-      Inv opening (reseat (reversion σ (e .told .item) (extended wrote (t .key) (σ .version (e .told .item)))) s (checking t (ok ++ (e ∷ [])) rs ws))
-  renews σ h s t ok rs ws e wrote q o a b c =
+      Inv opening (reseat (reversion σ (e .told .item) (reaching wrote (t .key) (σ .version (e .told .item)))) s (checking t (ok ++ (e ∷ [])) rs ws))
+  renews-inv σ h s t ok rs ws e wrote q o a b c =
       let item = e .told .item in
       let x = σ .version item in
-      let y = extended wrote (t .key) x in
+      let y = reaching wrote (t .key) x in
       let ck : CheckingOk opening (σ .order) (σ .version) s t ok (e ∷ rs) ws = rw q at (h .seats s) in
       let idle = h .versions item .due-held o in
       covers (reversion σ item y)
       (step-unheld opening σ item y h o o
-      (extended-ok opening (σ .order) item x (h .versions item) wrote (t .key) o (omega arith) c)
-      (extended-grows opening (σ .order) item x (h .versions item) wrote (t .key) o (omega arith) c))
+      (reaching-ok opening (σ .order) item x (h .versions item) wrote (t .key) o (omega arith) c)
+      (reaching-grows opening (σ .order) item x (h .versions item) wrote (t .key) o (omega arith) c))
       s t ok rs ws e q
       (rw (changed-same item y (σ .version)) (record {
         seen = quiet opening (σ .order) item x (h .versions item) idle (t .key) (ck .fits e (here refl) .current a) ∙ ck .entries e (here refl) .same a;

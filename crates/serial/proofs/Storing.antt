@@ -22,8 +22,8 @@ use Rattle.observer.specs.Observer.{Observer, unseen, onAdvance, changed, seein
 use Rattle.observer.proofs.Entries.{writeAt}
 use Rattle.serial.specs.Statement.{Values, applied}
 use Rattle.serial.proofs.Protocol.{Stamp, free, storing}
-use Rattle.serial.proofs.Versions.{stored}
-use Rattle.serial.proofs.Steps.{reseat, reversion, stores, finishes}
+use Rattle.serial.proofs.Versions.{overwritten}
+use Rattle.serial.proofs.Steps.{reseat, reversion, stores-inv, finishes-inv}
 use Rattle.observer.proofs.Segments.{seg, seg-next, seg-end}
 use Rattle.serial.proofs.View.{seatOf, view-storing, nudged-view}
 use Rattle.serial.proofs.Agree.{WordShows, SeenOk, Mirrored, stampAt, StaysMirrored, words-show-set, seen-nudged, agree-seeing}
@@ -33,8 +33,8 @@ module _ (opening : Values) (t : Tables) (b : Observer) (now : Mirrored opening 
   abbrev g : List ℕ
   g = row (t .seats) s
 
-  seen : SeenOk g (b .seats s)
-  seen = now .agree .seen s (fi .used)
+  seen-ok : SeenOk g (b .seats s)
+  seen-ok = now .agree .seen s (fi .used)
 
   abbrev stamp : Stamp
   stamp = stampAt t b s
@@ -56,16 +56,16 @@ module _ (opening : Values) (t : Tables) (b : Observer) (now : Mirrored opening 
     abbrev v : ℕ
     v = effect (writeValue g (position g)) (getD (t .values) (writeItem g (position g)) 0)
 
-    abbrev after : Tables
-    after = tables (set (t .values) item v) (set (t .words) item (fresh (time g))) (put (t .seats) s positionAt (position g + 1))
+    abbrev storedTables : Tables
+    storedTables = tables (set (t .values) item v) (set (t .words) item (fresh (time g))) (put (t .seats) s positionAt (position g + 1))
 
-    store-mirrored : Mirrored opening after (seeing b s (onAdvance (b .seats s) (Stored item)))
+    store-mirrored : Mirrored opening storedTables (seeing b s (onAdvance (b .seats s) (Stored item)))
     unfolding seatOf onAdvance
     store-mirrored =
         let p = position g in
         let w = writeAt g p in
         let x = onAdvance (b .seats s) (Stored item) in
-        let y = stored stamp w (now .σ .version item) in
+        let y = overwritten stamp w (now .σ .version item) in
         let rest = seg (writeAt g) (p + 1) (writes g - (p + 1)) in
         let n : Nudged g (set g positionAt (p + 1)) 4 (p + 1) (time g) = rw four at (nudge-position (not-nudged g (fine-row fi)) (p + 1)) in
         let is = fresh-is (time g) (time-top g (length (t .words)) (fi .sound) (omega arith)) in
@@ -74,9 +74,9 @@ module _ (opening : Values) (t : Tables) (b : Observer) (now : Mirrored opening 
         let same = fi .sized .same in
         record {
           σ = reseat (reversion (now .σ) item y) s (storing stamp rest);
-          inv = stores opening (now .σ) (now .inv) s stamp rest w (is-storing ∙ rw (seg-next (writeAt g) p (writes g) l));
+          inv = stores-inv opening (now .σ) (now .inv) s stamp rest w (is-storing ∙ rw (seg-next (writeAt g) p (writes g) l));
           agree =
-              agree-seeing (now .agree) after (changed item y (now .σ .version)) s (storing stamp rest) (set g positionAt (p + 1))
+              agree-seeing (now .agree) storedTables (changed item y (now .σ .version)) s (storing stamp rest) (set g positionAt (p + 1))
               (length-set (t .values) item v) (length-set (t .words) item (fresh (time g)))
               (words-show-set (now .σ .version) (t .values) (t .words) (set (t .values) item v) item (fresh (time g)) y (now .agree .shown)
               (λ j d. getD-set-other (t .values) item j v 0 d) inside
@@ -87,7 +87,7 @@ module _ (opening : Values) (t : Tables) (b : Observer) (now : Mirrored opening 
                 idle = λ _. refl;
               }))
               (becomes-put (t .seats) s positionAt (p + 1) (omega arith)) x (sym (nudged-view n (b .seats s .key)))
-              (λ _. seen-nudged n (b .seats s) x seen refl refl (λ _. omega (arith, seen .is-left four)));
+              (λ _. seen-nudged n (b .seats s) x seen-ok refl refl (λ _. omega (arith, seen-ok .is-left four)));
         }
 
   -- DONE, all stored
@@ -96,13 +96,13 @@ module _ (opening : Values) (t : Tables) (b : Observer) (now : Mirrored opening 
   done-mirrored l =
       record {
         σ = reseat (now .σ) s free;
-        inv = finishes opening (now .σ) (now .inv) s stamp (is-storing ∙ rw (seg-end (writeAt g) (position g) (writes g) l));
+        inv = finishes-inv opening (now .σ) (now .inv) s stamp (is-storing ∙ rw (seg-end (writeAt g) (position g) (writes g) l));
         agree = agree-seeing (now .agree) (tables (t .values) (t .words) (freed (t .seats) s)) (now .σ .version) s free freeRow refl refl
             (now .agree .shown) (becomes-freed (t .seats) s (fine-row fi)) unseen refl (λ d. absurd (d refl));
       }
 
-  pub store-phase-ok : StaysMirrored opening b (Advance o s) (storePhase t s)
+  pub store-phase-stays : StaysMirrored opening b (Advance o s) (storePhase t s)
   unfolding storePhase storeStep doneStep observe onAdvance
-  store-phase-ok =
+  store-phase-stays =
       cond-ind (StaysMirrored opening b (Advance o s)) (ltb (position g) (writes g)) (λ l. store-mirrored (ltb-true _ _ l))
       (λ l. done-mirrored (ltb-false _ _ l))

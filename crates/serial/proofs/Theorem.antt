@@ -21,7 +21,7 @@ use Rattle.rules.specs.Advance.{advanceIn, advance, abandon}
 use Rattle.rules.specs.Calls.{Call, Setup, Open, Read, Write, Advance, Abandon, step, run, Event, history}
 use Rattle.rows.specs.Fine.{cond-ind, Fine, fine}
 use Rattle.rows.specs.Becomes.{row-past}
-use Rattle.rows.specs.Begin.{begun, setup-ready, length-laid, laid-row}
+use Rattle.rows.specs.Begin.{setup-taken, setup-ready, length-laid, laid-row}
 use Rattle.observer.specs.Observer.{Observer, begunWith, nothing, observe, observed, isSetup, begins, NoSetup, SomeSetup}
 use Rattle.observer.proofs.Changes.{begins-anew, begins-is}
 use Rattle.serial.specs.Statement.{Values, AllStored, valuesOf, Serializable, SerialOrder, openingFrom, SinceLastSetup, allRanked}
@@ -31,12 +31,12 @@ use Rattle.serial.proofs.Final.{begin, begin-inv, inv-final}
 use Rattle.observer.proofs.Segments.{seg-in}
 use Rattle.observer.proofs.Entries.{writeAt}
 use Rattle.serial.proofs.View.{entryAt, seatOf, view}
-use Rattle.serial.proofs.Agree.{Mirrored, StaysMirrored, refused, unless-ok, sized-same}
-use Rattle.serial.proofs.Release.{drop-ok}
-use Rattle.serial.proofs.Working.{open-ok, read-ok, write-ok}
-use Rattle.serial.proofs.Locking.{lock-ok}
-use Rattle.serial.proofs.Checking.{check-phase-ok}
-use Rattle.serial.proofs.Storing.{store-phase-ok}
+use Rattle.serial.proofs.Agree.{Mirrored, StaysMirrored, refused-stays, unless-stays, sized-same}
+use Rattle.serial.proofs.Release.{drop-stays}
+use Rattle.serial.proofs.Working.{open-stays, read-stays, write-stays}
+use Rattle.serial.proofs.Locking.{lock-stays}
+use Rattle.serial.proofs.Checking.{check-phase-stays}
+use Rattle.serial.proofs.Storing.{store-phase-stays}
 
 -- SETUP that is not refused
 abbrev laidOut : Tables → ℕ → List ℕ → Tables
@@ -47,7 +47,7 @@ setup-mirrored : (t : Tables) (start : ℕ) (plan told : List ℕ) → setupRefu
     Mirrored (valuesOf (t .values)) (laidOut t start plan) (begunWith told)
 unfolding seatOf allRanked
 setup-mirrored t start plan told e =
-    let h = begun t start plan e in
+    let h = setup-taken t start plan e in
     let is = fresh-is start (h .start-in) in
     let n = length (t .words) in
     let m = length (t .seats) in
@@ -73,13 +73,13 @@ setup-began t start plan told r = let e = setup-ready t start plan r in rw (eq-e
 
 -- ADVANCE AND ABANDON, by the row's phase
 module _ (opening : Values) (t : Tables) (b : Observer) (now : Mirrored opening t b) (o s : ℕ) where
-  advance-in-ok : Fine t o s storing → StaysMirrored opening b (Advance o s) (advanceIn t s)
+  advance-in-stays : Fine t o s storing → StaysMirrored opening b (Advance o s) (advanceIn t s)
   unfolding advanceIn
-  advance-in-ok fi =
-      cond-ind Q (eqb ph 1) (λ a. lock-ok opening t b now o s 4 fi (omega (arith, eqb-true ph 1 a)))
-      (λ _. cond-ind Q (eqb ph 2) (λ a. lock-ok opening t b now o s 4 fi (omega (arith, eqb-true ph 2 a)))
-      (λ _. cond-ind Q (eqb ph 3) (λ a. check-phase-ok opening t b now o s 4 fi (eqb-true ph 3 a))
-      (λ _. cond-ind Q (eqb ph 4) (λ a. store-phase-ok opening t b now o s 4 fi (eqb-true ph 4 a)) (λ _. refused opening t b now (Advance o s) 3))))
+  advance-in-stays fi =
+      cond-ind Q (eqb ph 1) (λ a. lock-stays opening t b now o s 4 fi (omega (arith, eqb-true ph 1 a)))
+      (λ _. cond-ind Q (eqb ph 2) (λ a. lock-stays opening t b now o s 4 fi (omega (arith, eqb-true ph 2 a)))
+      (λ _. cond-ind Q (eqb ph 3) (λ a. check-phase-stays opening t b now o s 4 fi (eqb-true ph 3 a))
+      (λ _. cond-ind Q (eqb ph 4) (λ a. store-phase-stays opening t b now o s 4 fi (eqb-true ph 4 a)) (λ _. refused-stays opening t b now (Advance o s) 3))))
     where
       ph : ℕ
       ph = phase (row (t .seats) s)
@@ -87,13 +87,14 @@ module _ (opening : Values) (t : Tables) (b : Observer) (now : Mirrored opening 
       Q : Outcome → Type 0
       Q = StaysMirrored opening b (Advance o s)
 
-  advance-ok : StaysMirrored opening b (Advance o s) (advance t o s)
+  advance-stays : StaysMirrored opening b (Advance o s) (advance t o s)
   unfolding advance
-  advance-ok = unless-ok opening t b now (Advance o s) (seatRefusal t o s storing) _ (λ e. advance-in-ok (fine t o s false storing e))
+  advance-stays = unless-stays opening t b now (Advance o s) (seatRefusal t o s storing) _ (λ e. advance-in-stays (fine t o s false storing e))
 
-  abandon-ok : StaysMirrored opening b (Abandon o s) (abandon t o s)
+  abandon-stays : StaysMirrored opening b (Abandon o s) (abandon t o s)
   unfolding abandon
-  abandon-ok = unless-ok opening t b now (Abandon o s) (seatRefusal t o s checking) _ (λ e. let f = fine t o s false checking e in drop-ok opening t b now o s 3 f (f .phase-in))
+  abandon-stays =
+      unless-stays opening t b now (Abandon o s) (seatRefusal t o s checking) _ (λ e. let f = fine t o s false checking e in drop-stays opening t b now o s 3 f (f .phase-in))
 
 -- ONE CALL
 -- where a Setup is answered ready, the values are the opening values from then on
@@ -105,11 +106,11 @@ unfolding step isSetup
 call-mirrored values t b now (Setup start plan) =
     unfold setup observe in
     cond-ind (Went values t b (Setup start plan)) (eqb (setupRefusal t start plan) 0) (λ e. setup-mirrored t start plan plan (eqb-true _ _ e)) (λ _. now)
-call-mirrored values t b now (Open o) = open-ok (valuesOf values) t b now o
-call-mirrored values t b now (Read o s item) = read-ok (valuesOf values) t b now o s item
-call-mirrored values t b now (Write o s item v) = write-ok (valuesOf values) t b now o s item v
-call-mirrored values t b now (Advance o s) = advance-ok (valuesOf values) t b now o s
-call-mirrored values t b now (Abandon o s) = abandon-ok (valuesOf values) t b now o s
+call-mirrored values t b now (Open o) = open-stays (valuesOf values) t b now o
+call-mirrored values t b now (Read o s item) = read-stays (valuesOf values) t b now o s item
+call-mirrored values t b now (Write o s item v) = write-stays (valuesOf values) t b now o s item v
+call-mirrored values t b now (Advance o s) = advance-stays (valuesOf values) t b now o s
+call-mirrored values t b now (Abandon o s) = abandon-stays (valuesOf values) t b now o s
 
 -- the first Setup may find tables of any contents
 first-mirrored : (t : Tables) (b : Observer) (c : Call) → begins c (step t c .answer) ≡ true →

@@ -67,22 +67,22 @@ written-named (z ∷ ws) w item v d (there i) q =
     rw (ne-eqb (z .item) item (λ e. d .0 w i (cc))) (written-named ws w item v (d .1) i q)
 
 -- A RECORD'S VALUE after a transaction if its key is up to u, and after the transactions with keys up to u
-abbrev step : ℕ → Transaction → ℕ → ℕ → ℕ
-step u T item v = cond (leb (T .key) u) (written (T .writes) item v) v
+abbrev oneUpto : ℕ → Transaction → ℕ → ℕ → ℕ
+oneUpto u T item v = cond (leb (T .key) u) (written (T .writes) item v) v
 
 unfoldable pub upto : ℕ → List Transaction → ℕ → ℕ → ℕ
 upto u [] item v = v
-upto u (T ∷ S) item v = upto u S item (step u T item v)
+upto u (T ∷ S) item v = upto u S item (oneUpto u T item v)
 
 module _ (u : ℕ) (T : Transaction) (item v : ℕ) where
-  step-up : T .key ≤ u → step u T item v ≡ written (T .writes) item v
-  step-up h = rw (le-leb (T .key) u h)
+  one-up : T .key ≤ u → oneUpto u T item v ≡ written (T .writes) item v
+  one-up h = rw (le-leb (T .key) u h)
 
-  step-late : u < T .key → step u T item v ≡ v
-  step-late h = rw (lt-leb (T .key) u h)
+  one-late : u < T .key → oneUpto u T item v ≡ v
+  one-late h = rw (lt-leb (T .key) u h)
 
-  step-absent : Absent item (T .writes) → step u T item v ≡ v
-  step-absent a = cond-ind (λ (z : ℕ). z ≡ v) (leb (T .key) u) (λ _. written-absent (T .writes) item v a) (λ _. refl)
+  one-absent : Absent item (T .writes) → oneUpto u T item v ≡ v
+  one-absent a = cond-ind (λ (z : ℕ). z ≡ v) (leb (T .key) u) (λ _. written-absent (T .writes) item v a) (λ _. refl)
 
 module _ (u : ℕ) where
   -- none of S writes the record
@@ -90,47 +90,47 @@ module _ (u : ℕ) where
   unfolding upto
   upto-quiet [] item v h = refl
   upto-quiet (T ∷ S) item v h =
-      ap (upto u S item) (step-absent u T item v (h T (here refl))) ∙ upto-quiet S item v (λ U i. h U (there i))
+      ap (upto u S item) (one-absent u T item v (h T (here refl))) ∙ upto-quiet S item v (λ U i. h U (there i))
 
   -- all of S are later than u
   upto-late : (S : List Transaction) (item v : ℕ) → ((U : Transaction) → In U S → u < U .key) → upto u S item v ≡ v
   unfolding upto
   upto-late [] item v h = refl
-  upto-late (T ∷ S) item v h = ap (upto u S item) (step-late u T item v (h T (here refl))) ∙ upto-late S item v (λ U i. h U (there i))
+  upto-late (T ∷ S) item v h = ap (upto u S item) (one-late u T item v (h T (here refl))) ∙ upto-late S item v (λ U i. h U (there i))
 
   -- none of S is later than u
   pub upto-all : (S : List Transaction) (f : Values) (item : ℕ) → ((U : Transaction) → In U S → U .key ≤ u) → upto u S item (f item) ≡ valuesAfterAll S f item
   unfolding upto valuesAfterAll
   upto-all [] f item h = refl
-  upto-all (T ∷ S) f item h = ap (upto u S item) (step-up u T item (f item) (h T (here refl))) ∙ upto-all S (valuesAfter T f) item (λ U i. h U (there i))
+  upto-all (T ∷ S) f item h = ap (upto u S item) (one-up u T item (f item) (h T (here refl))) ∙ upto-all S (valuesAfter T f) item (λ U i. h U (there i))
 
 -- PLACING T
 module _ (T : Transaction) where
   -- nothing below its key changes
   pub upto-below : (S : List Transaction) (u item v : ℕ) → u < T .key → upto u (ranked T S) item v ≡ upto u S item v
   unfolding ranked upto
-  upto-below [] u item v h = step-late u T item v h
+  upto-below [] u item v h = one-late u T item v h
   upto-below (Z ∷ S) u item v h =
       cond-ind (λ (l : List Transaction). upto u l item v ≡ upto u (Z ∷ S) item v) (precedes Z T)
-      (λ _. upto-below S u item _ h) (λ _. ap (upto u (Z ∷ S) item) (step-late u T item v h))
+      (λ _. upto-below S u item _ h) (λ _. ap (upto u (Z ∷ S) item) (one-late u T item v h))
 
   -- nothing of a record that it does not write
   pub upto-absent : (S : List Transaction) (u item v : ℕ) → Absent item (T .writes) → upto u (ranked T S) item v ≡ upto u S item v
   unfolding ranked upto
-  upto-absent [] u item v a = step-absent u T item v a
+  upto-absent [] u item v a = one-absent u T item v a
   upto-absent (Z ∷ S) u item v a =
       cond-ind (λ (l : List Transaction). upto u l item v ≡ upto u (Z ∷ S) item v) (precedes Z T)
-      (λ _. upto-absent S u item _ a) (λ _. ap (upto u (Z ∷ S) item) (step-absent u T item v a))
+      (λ _. upto-absent S u item _ a) (λ _. ap (upto u (Z ∷ S) item) (one-absent u T item v a))
 
   -- where no later one writes the record, its effect comes last
   pub upto-above : (S : List Transaction) (u item v : ℕ) → T .key ≤ u → Sorted S → ((U : Transaction) → In U S → T .key < U .key → Absent item (U .writes)) →
       upto u (ranked T S) item v ≡ written (T .writes) item (upto u S item v)
   unfolding ranked upto Sorted
-  upto-above [] u item v h s q = step-up u T item v h
+  upto-above [] u item v h s q = one-up u T item v h
   upto-above (Z ∷ S) u item v h s q =
       cond-ind (λ (l : List Transaction). upto u l item v ≡ written (T .writes) item (upto u (Z ∷ S) item v)) (precedes Z T)
       (λ _. upto-above S u item _ h (s .1) (λ U i. q U (there i)))
-      (λ a. ap (upto u (Z ∷ S) item) (step-up u T item v h)
+      (λ a. ap (upto u (Z ∷ S) item) (one-up u T item v h)
       ∙ upto-quiet u (Z ∷ S) item (written (T .writes) item v) (quiet (precedes-no Z T a))
       ∙ ap (written (T .writes) item) (sym (upto-quiet u (Z ∷ S) item v (quiet (precedes-no Z T a)))))
     where
@@ -159,7 +159,7 @@ right-ranked T (Z ∷ S) f s h q t =
     (λ a. (
       t .0,
       right-ranked T S (valuesAfter Z f) (s .1)
-          (λ e i. ap (upto (T .key) S (e .item)) (sym (step-up (T .key) Z (e .item) (f (e .item)) (precedes-yes Z T a))) ∙ h e i) (λ U i. q U (there i)) (t .1),
+          (λ e i. ap (upto (T .key) S (e .item)) (sym (one-up (T .key) Z (e .item) (f (e .item)) (precedes-yes Z T a))) ∙ h e i) (λ U i. q U (there i)) (t .1),
     ))
     (λ a. (
       λ e i. sym (upto-late (T .key) (Z ∷ S) (e .item) (f (e .item)) (late (precedes-no Z T a))) ∙ h e i,

@@ -14,13 +14,13 @@ abbrev pub withHolder : Option ℕ → Version → Version
 withHolder o x = record { value = x .value; wrote = x .wrote; from = x .from; upTo = x .upTo; holder = o; due = x .due }
 
 -- the read time is `upTo` now, and the write time `wrote`
-abbrev pub extended : ℕ → ℕ → Version → Version
-extended wrote upTo x =
+abbrev pub reaching : ℕ → ℕ → Version → Version
+reaching wrote upTo x =
     record { value = x .value; wrote = wrote; from = x .from; upTo = upTo; holder = x .holder; due = x .due }
 
 -- the store that was due is made
-abbrev pub stored : Stamp → WriteEntry → Version → Version
-stored t w x = record { value = applied w (x .value); wrote = t .time; from = t .key; upTo = t .key; holder = none; due = none }
+abbrev pub overwritten : Stamp → WriteEntry → Version → Version
+overwritten t w x = record { value = applied w (x .value); wrote = t .time; from = t .key; upTo = t .key; holder = none; due = none }
 
 module _ (opening : Values) (S : List Transaction) (item : ℕ) (x : Version) (h : VersionOk opening S item x) where
   -- with no store to come, the value is the run's from its own store on
@@ -48,8 +48,8 @@ module _ (opening : Values) (S : List Transaction) (item : ℕ) (x : Version) (h
     idle : x .due ≡ none
     idle = h .due-held o
 
-    pub extended-ok : VersionOk opening S item (extended wrote upTo x)
-    extended-ok =
+    pub reaching-ok : VersionOk opening S item (reaching wrote upTo x)
+    reaching-ok =
         record {
           range = let l = h .range in omega arith;
           wrote-low = let l = h .wrote-low in omega arith;
@@ -61,16 +61,16 @@ module _ (opening : Values) (S : List Transaction) (item : ℕ) (x : Version) (h
           writers = λ T i w j q. up (h .writers T i w j q);
         }
       where
-        up : {n : ℕ} → n ≤ closed x → n ≤ closed (extended wrote upTo x)
+        up : {n : ℕ} → n ≤ closed x → n ≤ closed (reaching wrote upTo x)
         up = rw idle (λ p. omega arith)
 
-    pub extended-grows : Grows opening S S item x (extended wrote upTo x)
-    extended-grows =
+    pub reaching-grows : Grows opening S S item x (reaching wrote upTo x)
+    reaching-grows =
         record { newer = a; longer = c; wider = rw idle c; past = λ u p. refl; same-value = λ p. refl; same-from = λ p. refl }
 
   module _ (t : Stamp) (w : WriteEntry) (due : x .due ≡ some (record { stamp = t; entry = w })) where
-    pub stored-ok : t .key ≡ t .time → VersionOk opening S item (stored t w x)
-    stored-ok timed =
+    pub overwritten-ok : t .key ≡ t .time → VersionOk opening S item (overwritten t w x)
+    overwritten-ok timed =
         record {
           range = omega arith;
           wrote-low = omega arith;
@@ -85,8 +85,8 @@ module _ (opening : Values) (S : List Transaction) (item : ℕ) (x : Version) (h
         last : (u : ℕ) → t .key ≤ u → val opening S item u ≡ applied w (x .value)
         last u p = h .from-due u (rw due p) ∙ rw due refl
 
-    pub stored-grows : Grows opening S S item x (stored t w x)
-    stored-grows =
+    pub overwritten-grows : Grows opening S S item x (overwritten t w x)
+    overwritten-grows =
         let l = h .due-below (record { stamp = t; entry = w }) due in
         record {
           newer = omega (arith, l .time);

@@ -74,8 +74,8 @@ entry-same g h i a b c d = λ z. record { told = record { item = a z; value = b 
 
 -- A NUDGED ROW has its entries
 module _ {g h : List ℕ} {ph p t : ℕ} (n : Nudged g h ph p t) where
-  nudged-read : entryAt h ≡ entryAt g
-  nudged-read =
+  nudged-entry : entryAt h ≡ entryAt g
+  nudged-entry =
       fun-ext (λ i. entry-same g h i
       (at (readItemAt i) (omega arith)) (at (readValueAt i) (omega arith)) (at (keptWriteAt i) (omega arith)) (at (keptReadAt i) (omega arith)))
     where
@@ -83,12 +83,12 @@ module _ {g h : List ℕ} {ph p t : ℕ} (n : Nudged g h ph p t) where
       at f l = n .rest f (omega arith) (omega arith) (omega arith)
 
   pub nudged-view : (key : ℕ) → view key h ≡ seatOf key ph p (reads g) (writes g) t (entryAt g) (writeAt g)
-  nudged-view key = λ z. seatOf key (n .is-phase z) (n .is-position z) (nudged-reads n z) (nudged-writes n z) (n .is-time z) (nudged-read z) (nudged-write n z)
+  nudged-view key = λ z. seatOf key (n .is-phase z) (n .is-position z) (nudged-reads n z) (nudged-writes n z) (n .is-time z) (nudged-entry z) (nudged-write n z)
 
 -- A ROW WITH A NEW READ ENTRY has that after the others
 module _ {g h : List ℕ} {item value wrote upTo : ℕ} (n : WithRead g h item value wrote upTo) (few : reads g < mostReads) where
-  noted-read : (i : ℕ) → i < reads g → entryAt h i ≡ entryAt g i
-  noted-read i l =
+  noted-entry : (i : ℕ) → i < reads g → entryAt h i ≡ entryAt g i
+  noted-entry i l =
       entry-same g h i (n .before (readItemAt i) (omega arith) (omega arith)) (n .before (readValueAt i) (omega arith) (omega arith))
       (n .before (keptWriteAt i) (omega arith) (omega arith)) (n .before (keptReadAt i) (omega arith) (omega arith))
 
@@ -96,7 +96,7 @@ module _ {g h : List ℕ} {item value wrote upTo : ℕ} (n : WithRead g h item v
   noted-readEntries =
       ap (seg (entryAt h) 0) (n .count)
       ∙ seg-more (entryAt h) (reads g)
-      ∙ (λ z. seg-ext (entryAt h) (entryAt g) (reads g) 0 (λ i _ l. noted-read i (omega arith)) z
+      ∙ (λ z. seg-ext (entryAt h) (entryAt g) (reads g) 0 (λ i _ l. noted-entry i (omega arith)) z
       ++ (record { told = record { item = n .has-item z; value = n .has-value z }; wrote = n .has-wrote z; upTo = n .has-upTo z } ∷ []))
 
 -- A ROW WITH THE SAME FRONT has its read entries
