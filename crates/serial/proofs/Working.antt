@@ -62,7 +62,8 @@ module _ (opening : Values) (t : Tables) (b : Observer) (now : Mirrored opening 
       (eqb-true _ _ (first-hit (isFree (t .seats)) seatCount l)))
 
 -- READ AND WRITE, not refused before 6
-module _ (opening : Values) (t : Tables) (b : Observer) (now : Mirrored opening t b) (o s item : ℕ) (fi : Fine t o s 1) (there : item < length (t .words)) where
+module _ (opening : Values) (t : Tables) (b : Observer) (now : Mirrored opening t b) (o s item : ℕ) (fi : Fine t o s 1)
+    (there : item < length (t .words)) where
   abbrev g : List ℕ
   g = row (t .seats) s
 
