@@ -7,7 +7,8 @@ use mathlib.Core.Path.{_≡_, refl, ap, _∙_}
 use mathlib.Core.Bool.{Bool, true, false, and-false}
 use borrow.Author.Tests.{eq-eqb, ne-eqb, lt-ltb, le-ltb, le-leb, lt-leb}
 use Rattle.clock.specs.declared.Packed.the-variants.{Word, Refused}
-use Rattle.clock.specs.Word.{reach, span, top, lockBit, isLocked, distance, writeTime, readTime, bit, word, withLock, fresh, extended, packed, freshAt, extendedTo}
+use Rattle.clock.specs.Word.{reach, span, top, lockBit, isLocked, distance, writeTime, readTime, bit, word, withLock, fresh, extended}
+use Rattle.clock.specs.Word.{packed, freshAt, extendedTo}
 
 -- the ranges
 pub distance-small : (w : ℕ) → distance w < reach
@@ -85,7 +86,9 @@ withLock-is b w = word-is b (distance w) (writeTime w) (distance-small w) (write
 pub withLock-twice : (a b : Bool) (w : ℕ) → withLock a (withLock b w) ≡ withLock a w
 unfolding withLock
 withLock-twice a b w =
-    cc (word-distance b (distance w) (writeTime w) (distance-small w) (writeTime-small w), word-is b (distance w) (writeTime w) (distance-small w) (writeTime-small w) .is-written)
+    let far = word-distance b (distance w) (writeTime w) (distance-small w) (writeTime-small w) in
+    let is = word-is b (distance w) (writeTime w) (distance-small w) (writeTime-small w) in
+    cc (far, is .is-written)
 
 pub withLock-same : (w : ℕ) → w < 2 ^ 64 → withLock (isLocked w) w ≡ w
 unfolding withLock
