@@ -8,10 +8,12 @@ use Rattle.clock.specs.Cases.{wordCases, wordDue, word-cases}
 use Rattle.rules.specs.Tests.{scan, sumTo, oneOf, firstOf}
 use Rattle.rules.specs.Layout.{seatsLength, row, put, reads}
 use Rattle.rules.specs.Tables.{Tables, tables}
-use Rattle.rules.specs.Refusals.{unsized, misnamed, misplaced, late, badRead, badWrite, damaged, foreign, refusal}
+use Rattle.rules.specs.Refusals.{unsized, misnamed, misplaced, late, badRead, badWrite, badHead, badEntry, damaged, foreign, rowRefusal, refusal}
 use Rattle.rules.specs.Plan.{badShare, badPlan, setupRefusal, laid, setup, badRow, isFree, freeSeat, cleared, opened}
 use Rattle.rules.specs.Work.{readNames, writeNames, readOf, writeOf, readNoted, firstRead, readIn, read, above, placeOf, slid, placed, writeIn, write}
-use Rattle.rules.specs.Advance.{heldLocks, released, letGo, moved, lockStep, seenTime, dueTime, commitTime, timeStep, verdict, judged, stretched, passed, ruled, checkStep, sealStep, effect, storeStep, doneStep, lockPhase, checkPhase, storePhase, advanceIn, advance, abandon}
+use Rattle.rules.specs.Advance.{heldLocks, released, letGo, moved, lockStep, seenTime, dueTime, commitTime, timeStep}
+use Rattle.rules.specs.Advance.{isBlocked, byWord, verdict, isOwn, judged, stretched, passedTo, passed, ruled, checkStep, sealStep, effect}
+use Rattle.rules.specs.Advance.{storeStep, doneStep, lockPhase, checkPhase, storePhase, advanceIn, advance, abandon}
 use Rattle.rules.specs.Calls.{Call, Setup, Open, Read, Write, Advance, run, told, answers}
 use Rattle.cases.specs.Quick.{counted, quickHeld, refusalBy, quickOpen, quickStep, quickRun, quick-run, quickHistory, quick-history}
 use Rattle.rules.specs.declared.Answer.{Answer}
@@ -25,9 +27,34 @@ blank = tables (0 ∷ 0 ∷ []) (0 ∷ 0 ∷ []) (replicate seatsLength 0)
 unfoldable pub plan : List ℕ
 plan = 1 ∷ 1 ∷ (replicate 14 0 ++ (2 ∷ 2 ∷ replicate 14 0))
 
--- what a worked case computes with: `unfolding computed` opens all of it
+-- WHAT A WORKED CASE COMPUTES WITH: `unfolding computed` opens all of it
+unfoldable pub theWords : Unit {0}
+unfolding reach span top lockBit isLocked distance writeTime readTime word withLock fresh extended
+theWords = tt
+
+unfoldable pub theRefusals : Unit {0}
+unfolding scan oneOf firstOf row unsized misnamed misplaced late badRead badWrite badHead badEntry damaged foreign rowRefusal refusal
+theRefusals = tt
+
+unfoldable pub thePlan : Unit {0}
+unfolding sumTo put badShare badPlan setupRefusal laid setup badRow isFree freeSeat cleared opened
+thePlan = tt
+
+unfoldable pub theWork : Unit {0}
+unfolding readNames writeNames readOf writeOf readNoted firstRead readIn read above placeOf slid placed writeIn write
+theWork = tt
+
+unfoldable pub theSteps : Unit {0}
+unfolding heldLocks released letGo moved lockStep seenTime dueTime commitTime timeStep isBlocked byWord verdict isOwn judged
+    stretched passedTo passed ruled checkStep sealStep effect storeStep doneStep
+theSteps = tt
+
+unfoldable pub theCalls : Unit {0}
+unfolding lockPhase checkPhase storePhase advanceIn advance abandon told quickHeld counted refusalBy quickOpen quickStep quickRun quickHistory
+theCalls = tt
+
 unfoldable pub computed : Unit {0}
-unfolding blank plan scan sumTo oneOf firstOf row put unsized misnamed misplaced late badRead badWrite damaged foreign refusal badShare badPlan setupRefusal laid setup badRow isFree freeSeat cleared opened readNames writeNames readOf writeOf readNoted firstRead readIn read above placeOf slid placed writeIn write heldLocks released letGo moved lockStep seenTime dueTime commitTime timeStep verdict judged stretched passed ruled checkStep sealStep effect storeStep doneStep lockPhase checkPhase storePhase advanceIn advance abandon told quickHeld counted refusalBy quickOpen quickStep quickRun quickHistory reach span top lockBit isLocked distance writeTime readTime word withLock fresh extended
+unfolding blank plan theWords theRefusals thePlan theWork theSteps theCalls
 computed = tt
 
 -- a case: a start, the calls after Setup, and the answers after Ready

@@ -2,18 +2,19 @@
 -- list of calls, comes to the same with it. No promise cites it.
 use Prim.Native.Nat.{ℕ, zero, suc, _+_, max}
 use mathlib.Core.Path.{_≡_, refl, sym, ap, _∙_}
-use mathlib.Core.Bool.{Bool, false, cond, not, _&&_}
+use mathlib.Core.Bool.{Bool, cond, not, _&&_}
 use mathlib.Core.List.{List, [], _∷_}
 use native.Mathlib.Omega.{arith}
 use native.Mathlib.Nat.{zero-add}
 use lib.Dec.{eqb, ltb, leb}
 use lib.ListN.{length, take, drop}
 use lib.Seq.{drop-drop}
-use Rattle.rules.specs.Tests.{any, count, sumTo, oneOf, firstOf}
-use Rattle.rules.specs.Layout.{owners, seatCount, rowWidth, rowAt, row, phase, owner, share, limit}
-use Rattle.rules.specs.Tables.{Tables, Outcome, after, unless}
+use Rattle.rules.specs.Tests.{any, count, sumTo, oneOf}
+use Rattle.rules.specs.Layout.{owners, seatCount, rowWidth, free, rowAt, row, phase, owner, share, limit}
+use Rattle.rules.specs.Tables.{Tables, Outcome, withSeats, answered, unless}
 use Rattle.rules.specs.Refusals.{unsized}
-use Rattle.rules.specs.Plan.{setup, badPlan, badRow, holds, held, claim, claims, overLimit, unsound, crowded, openRefusal, freeSeat, opened, openSeat}
+use Rattle.rules.specs.Plan.{setup, badPlan, badRow, holds, held, claim, claims, overLimit, unsound, crowded, ownerRefusal, planRefusal, openRefusal}
+use Rattle.rules.specs.Plan.{freeSeat, opened, openSeat}
 use Rattle.rules.specs.Work.{read, write}
 use Rattle.rules.specs.Advance.{advance, abandon}
 use Rattle.rules.specs.Calls.{Call, Setup, Open, Read, Write, Advance, Abandon, step, run, Event, history}
@@ -27,7 +28,9 @@ counted p (suc n) l = cond (p (take rowWidth l)) 1 0 + counted p n (drop rowWidt
 count-front : (q : ℕ → Bool) (n : ℕ) → count q (suc n) ≡ cond (q 0) 1 0 + count (λ s. q (suc s)) n
 unfolding count
 count-front q zero = omega arith
-count-front q (suc n) = let e = count-front q n in omega arith
+count-front q (suc n) =
+    let e = count-front q n in
+    omega arith
 
 counted-is : (p : List ℕ → Bool) (seats : List ℕ) (n k : ℕ) → counted p n (drop (rowAt k) seats) ≡ count (λ s. p (row seats (k + s))) n
 unfolding counted count row
@@ -35,7 +38,8 @@ counted-is p seats zero k = refl
 counted-is p seats (suc n) k =
     let next : rowAt k + rowWidth ≡ rowAt (suc k) = omega arith in
     let here : k ≡ k + 0 = omega arith in
-    let at : (s : ℕ) → p (row seats (suc k + s)) ≡ p (row seats (k + suc s)) = λ s. ap (λ (i : ℕ). p (row seats i)) (let e : suc k + s ≡ k + suc s = omega arith in e) in
+    let same : (s : ℕ) → suc k + s ≡ k + suc s = λ s. omega arith in
+    let at : (s : ℕ) → p (row seats (suc k + s)) ≡ p (row seats (k + suc s)) = λ s. ap (λ (i : ℕ). p (row seats i)) (same s) in
     ap (λ (m : ℕ). cond (p (row seats k)) 1 0 + m)
     (ap (counted p n) (drop-drop rowWidth (rowAt k) seats ∙ ap (λ (i : ℕ). drop i seats) next)
     ∙ counted-is p seats n (suc k)
@@ -44,7 +48,7 @@ counted-is p seats (suc n) k =
     ∙ sym (count-front (λ s. p (row seats (k + s))) n)
 
 abbrev isHeldBy : ℕ → List ℕ → Bool
-isHeldBy o g = not (eqb (phase g) 0) && eqb (owner g) o
+isHeldBy o g = not (eqb (phase g) free) && eqb (owner g) o
 
 unfoldable pub quickHeld : List ℕ → ℕ → ℕ
 quickHeld seats o = counted (isHeldBy o) seatCount (drop (rowAt 0) seats)
@@ -59,21 +63,19 @@ claimsBy h seats = sumTo (λ o. max (h o) (share seats o)) owners
 
 unfoldable pub refusalBy : (ℕ → ℕ) → Tables → ℕ → ℕ
 refusalBy h t o =
-    firstOf 1 (unsized (length (t .values)) (length (t .words)) (length (t .seats))
-    ∷ leb owners o
-    ∷ oneOf (badPlan (t .seats)
+    cond (unsized (length (t .values)) (length (t .words)) (length (t .seats))) 1
+    (cond (leb owners o) 2
+    (cond (oneOf (badPlan (t .seats)
     ∷ any (badRow (t .seats)) seatCount
     ∷ any (λ i. ltb (limit (t .seats) i) (h i)) owners
     ∷ ltb seatCount (claimsBy h (t .seats))
-    ∷ [])
-    ∷ false
-    ∷ false
-    ∷ leb (limit (t .seats) o) (h o)
-    ∷ (leb (share (t .seats) o) (h o) && eqb (claimsBy h (t .seats)) seatCount)
-    ∷ [])
+    ∷ []))
+    3
+    (cond (leb (limit (t .seats) o) (h o)) 6
+    (cond (leb (share (t .seats) o) (h o) && eqb (claimsBy h (t .seats)) seatCount) 7 0))))
 
 refusal-by : (t : Tables) (o : ℕ) → openRefusal t o ≡ refusalBy (held (t .seats)) t o
-unfolding openRefusal refusalBy unsound overLimit crowded claims claim
+unfolding openRefusal planRefusal ownerRefusal refusalBy unsound overLimit crowded claims claim
 refusal-by t o = refl
 
 quick-refusal : (t : Tables) (o : ℕ) → openRefusal t o ≡ refusalBy (quickHeld (t .seats)) t o
@@ -83,7 +85,7 @@ unfoldable pub quickOpen : Tables → ℕ → Outcome
 quickOpen t o =
     unless (refusalBy (quickHeld (t .seats)) t o) t
     (let s : ℕ = freeSeat (t .seats) in
-    after (Seat s) (t .values) (t .words) (opened (t .seats) s o))
+    answered (Seat s) (withSeats t (opened (t .seats) s o)))
 
 quick-open : (t : Tables) (o : ℕ) → openSeat t o ≡ quickOpen t o
 unfolding openSeat quickOpen
