@@ -1,10 +1,10 @@
--- `tape::records_after` meets its contract. Assumes nothing.
+-- `turns::records_after` meets its contract. Assumes nothing.
 use mathlib.Core.Path.{sym, _∙_}
 use borrow.Author.Tests.{eq-eqb, ne-eqb}
 use borrow.Author.Needs.{needs}
-use Rattle.tape.proofs.Lending.{lends-as-before}
-use Rattle.tape.proofs.records_after.Statement.{statement}
-use Rattle.tape.proofs.records_after.Tie as tie
+use Rattle.turns.proofs.Lending.{lends-as-before}
+use Rattle.turns.proofs.records_after.Statement.{statement}
+use Rattle.turns.proofs.records_after.Tie as tie
 
 enum-known-c : tie.Need-enum-known-c
 enum-known-c c = search needs

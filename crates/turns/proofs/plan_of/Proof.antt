@@ -1,4 +1,4 @@
--- `tape::plan_of` meets its contract: the numbers before place i are the plan's. Assumes nothing.
+-- `turns::plan_of` meets its contract: the numbers before place i are the plan's. Assumes nothing.
 use Prim.Native.Nat.{_+_, _-_, _≤_}
 use native.Mathlib.Omega.{arith}
 use mathlib.Core.Path.{_≡_, refl, sym}
@@ -6,11 +6,11 @@ use denote.Ref.{now}
 use borrow.Author.Needs.{needs}
 use lib.ListN.{length, take, drop, length-set, length-drop}
 use lib.Seq.{getD-drop}
-use Rattle.tape.proofs.Copies.{copied-more, copied-all}
+use Rattle.turns.proofs.Copies.{copied-more, copied-all}
 use Rattle.rules.specs.Layout.{planWidth}
 use Rattle.frames.specs.Decode.{planFrom}
-use Rattle.tape.proofs.plan_of.Statement.{statement}
-use Rattle.tape.proofs.plan_of.Tie as tie
+use Rattle.turns.proofs.plan_of.Statement.{statement}
+use Rattle.turns.proofs.plan_of.Tie as tie
 
 abbrev Inv-loop : tie.InvT-loop
 Inv-loop b plan₀ i₀ plan i = (i ≤ planWidth) × (length plan ≡ planWidth) × (take i plan ≡ take i (drop planFrom b))
