@@ -9,7 +9,7 @@ use Rattle.rules.specs.declared.Answer.{Answer}
 use Rattle.frames.specs.declared.Call.{Call}
 use Rattle.frames.specs.declared.Decoded.the-variants.{Whole}
 use Rattle.frames.specs.declared.Frame.the-variants.{Body}
-use Rattle.frames.specs.Decode.{frameOf, decoded}
+use Rattle.frames.specs.Decode.{lengthSize, frameOf, decoded}
 use Rattle.turns.specs.declared.Turn.the-variants.{Said, Stop}
 use Rattle.turns.specs.Calls.{PlanFits, performed, recordsAfter}
 use Rattle.turns.specs.Turns.{stops, lineOf, callTurn}
@@ -19,7 +19,7 @@ use Rattle.turns.specs.Laws.{Fits, fits, Inside, inside}
 -- a call that was answered
 pub call-taken : (n records : ℕ) (t : Tables) (c : Call) (b : List ℕ) {a : Answer} {t′ : Tables} {len lent at : ℕ} {out out′ : List ℕ}
     → answered a t′ ≡ performed records t c b → Appended out at (lineOf n a) len out′ → lent ≡ recordsAfter records c a
-    → Taken (callTurn n records t b c) t out at (Said (2 + length b) len lent) t′ out′
+    → Taken (callTurn n records t b c) t out at (Said (lengthSize + length b) len lent) t′ out′
 unfolding callTurn
 call-taken n records t c b e p k = rw (sym e) record { turn = rw (p .size, k); tables = refl; text = p .text }
 
@@ -32,5 +32,5 @@ pub plan-fits : (b : List ℕ) (c : Call) → decoded b ≡ Whole c → PlanFits
 plan-fits b c e = subst (Fits b) e (fits b) .0
 
 -- a frame's body lies within the tape
-pub body-inside : (t : List ℕ) (n : ℕ) → frameOf t ≡ Body n → 2 + n ≤ length t
+pub body-inside : (t : List ℕ) (n : ℕ) → frameOf t ≡ Body n → lengthSize + n ≤ length t
 body-inside t n e = subst (Inside t) e (inside t) .0

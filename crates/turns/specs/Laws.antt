@@ -24,7 +24,8 @@ use Rattle.frames.specs.declared.Decoded.{Decoded}
 use Rattle.frames.specs.declared.Decoded.the-variants.{Whole, Unknown, Misfit}
 use Rattle.frames.specs.declared.Frame.{Frame}
 use Rattle.frames.specs.declared.Frame.the-variants.{Nothing, Short, Body}
-use Rattle.frames.specs.Decode.{be16, frameOf, setupSize, openSize, readSize, writeSize, seatSize, byKind, decoded, planFrom}
+use Rattle.frames.specs.Decode.{be16, lengthSize, frameOf, setupSize, openSize, readSize, writeSize, seatSize, byKind, decoded, planFrom}
+use Rattle.frames.specs.Decode.{setupKind, openKind, readKind, writeKind, advanceKind, abandonKind}
 use Rattle.turns.specs.Faults.{misfit, unknownKind, stopLine}
 use Rattle.turns.specs.Calls.{PlanFits, onFirst, performed, recordsAfter, setupAgain, wrongSizes}
 use Rattle.turns.specs.Turns.{lineRoom, lastRoom, Turned, waits, stops, says, callTurn, bodyTurn, frameTurn, turnOf}
@@ -40,30 +41,30 @@ unfolding decoded byKind
 fits b =
     let k : ℕ = getD b 0 0 in
     cond-ind (Fits b) (ltb 0 (length b)) (λ _.
-    cond-ind (Fits b) (eqb k 0) (λ _. cond-ind (Fits b) (eqb (length b) setupSize) (λ e. let n = eqb-true _ _ e in (n, omega arith)) (λ _. tt)) (λ _.
-    cond-ind (Fits b) (eqb k 1) (λ _. plain openSize _ (omega arith) tt) (λ _.
-    cond-ind (Fits b) (eqb k 2) (λ _. plain readSize _ (omega arith) tt) (λ _.
-    cond-ind (Fits b) (eqb k 3) (λ _. plain writeSize _ (omega arith) tt) (λ _.
-    cond-ind (Fits b) (eqb k 4) (λ _. plain seatSize _ (omega arith) tt) (λ _.
-    cond-ind (Fits b) (eqb k 5) (λ _. plain seatSize _ (omega arith) tt) (λ _. tt))))))) (λ _. tt)
+    cond-ind (Fits b) (eqb k setupKind) (λ _. cond-ind (Fits b) (eqb (length b) setupSize) (λ e. let n = eqb-true _ _ e in (n, omega arith)) (λ _. tt)) (λ _.
+    cond-ind (Fits b) (eqb k openKind) (λ _. plain openSize _ (omega arith) tt) (λ _.
+    cond-ind (Fits b) (eqb k readKind) (λ _. plain readSize _ (omega arith) tt) (λ _.
+    cond-ind (Fits b) (eqb k writeKind) (λ _. plain writeSize _ (omega arith) tt) (λ _.
+    cond-ind (Fits b) (eqb k advanceKind) (λ _. plain seatSize _ (omega arith) tt) (λ _.
+    cond-ind (Fits b) (eqb k abandonKind) (λ _. plain seatSize _ (omega arith) tt) (λ _. tt))))))) (λ _. tt)
   where
     plain : (n : ℕ) (c : Call) → 2 ≤ n → PlanFits c b → Fits b (cond (eqb (length b) n) (Whole c) Misfit)
     plain n c h p = cond-ind (Fits b) (eqb (length b) n) (λ e. (p, omega (arith, eqb-true (length b) n e))) (λ _. tt)
 
 -- A FRAME'S BODY lies within the tape; where there is none, the frame's end does not
 abbrev pub Inside : List ℕ → Frame → Type 0
-Inside t Nothing = length t < 2 + be16 t 0
-Inside t Short = length t < 2 + be16 t 0
-Inside t (Body n) = (2 + n ≤ length t) × (n ≡ be16 t 0)
+Inside t Nothing = length t < lengthSize + be16 t 0
+Inside t Short = length t < lengthSize + be16 t 0
+Inside t (Body n) = (lengthSize + n ≤ length t) × (n ≡ be16 t 0)
 
 pub inside : (t : List ℕ) → Inside t (frameOf t)
 unfolding frameOf
 inside t =
     cond-ind (Inside t) (ltb 0 (length t)) (λ _.
-    cond-ind (Inside t) (ltb (length t) 2) (λ h. omega (arith, ltb-true (length t) 2 h)) (λ h.
-    cond-ind (Inside t) (leb (be16 t 0) (length t - 2))
-    (λ e. (omega (arith, leb-true (be16 t 0) (length t - 2) e, ltb-false (length t) 2 h), refl))
-    (λ e. omega (arith, leb-false (be16 t 0) (length t - 2) e)))) (λ h. omega (arith, ltb-false 0 (length t) h))
+    cond-ind (Inside t) (ltb (length t) lengthSize) (λ h. omega (arith, ltb-true (length t) lengthSize h)) (λ h.
+    cond-ind (Inside t) (leb (be16 t 0) (length t - lengthSize))
+    (λ e. (omega (arith, leb-true (be16 t 0) (length t - lengthSize) e, ltb-false (length t) lengthSize h), refl))
+    (λ e. omega (arith, leb-false (be16 t 0) (length t - lengthSize) e)))) (λ h. omega (arith, ltb-false 0 (length t) h))
 
 -- SETUP, as the tape allows it
 module _ (records count start : ℕ) (t : Tables) (b : List ℕ) where
@@ -140,30 +141,30 @@ stop-line fault offset h =
 
 -- WHAT A TURN COMES TO: what it takes lies within the rest; its line has room; and it lends no more records than there may be
 pub record Says (t x : List ℕ) (records used records′ : ℕ) : Type 0 where
-  pub least : 2 ≤ used
+  pub least : lengthSize ≤ used
   pub within : used ≤ length t
   pub room : length x ≤ lineRoom * used
   pub few : records ≤ mostRecords → records′ ≤ mostRecords
 
 pub record Stops (t x : List ℕ) : Type 0 where
-  pub least : 2 ≤ length t
+  pub least : lengthSize ≤ length t
   pub room : length x ≤ lastRoom
 
 abbrev pub Good : ℕ → List ℕ → Turned → Type 0
-Good records t waits = length t < 2 + be16 t 0
+Good records t waits = length t < lengthSize + be16 t 0
 Good records t (stops x) = Stops t x
 Good records t (says x used records′ t′) = Says t x records used records′
 
 module _ (n offset records : ℕ) (t : Tables) (rest : List ℕ) where
-  good-body : (k : ℕ) (d : Decoded) → 2 + k ≤ length rest → Fits (take k (drop 2 rest)) d
-      → Good records rest (bodyTurn n offset records t (take k (drop 2 rest)) d)
+  good-body : (k : ℕ) (d : Decoded) → lengthSize + k ≤ length rest → Fits (take k (drop lengthSize rest)) d
+      → Good records rest (bodyTurn n offset records t (take k (drop lengthSize rest)) d)
   unfolding bodyTurn callTurn
   good-body k Unknown h f = record { least = omega arith; room = stop-line unknownKind offset (unfold widthOf widthIn in omega arith) }
   good-body k Misfit h f = record { least = omega arith; room = stop-line misfit offset (unfold widthOf widthIn in omega arith) }
   good-body k (Whole c) h f =
-      let b : List ℕ = take k (drop 2 rest) in
+      let b : List ℕ = take k (drop lengthSize rest) in
       let a : Answer = performed records t c b .answer in
-      let e : length b ≡ k = length-take-le k (drop 2 rest) (omega (arith, length-drop 2 rest)) in
+      let e : length b ≡ k = length-take-le k (drop lengthSize rest) (omega (arith, length-drop lengthSize rest)) in
       record {
         least = omega arith;
         within = omega arith;
@@ -175,7 +176,7 @@ module _ (n offset records : ℕ) (t : Tables) (rest : List ℕ) where
   unfolding frameTurn
   good-frame Nothing h = h
   good-frame Short h = h
-  good-frame (Body k) h = good-body k (decoded (take k (drop 2 rest))) (h .0) (fits (take k (drop 2 rest)))
+  good-frame (Body k) h = good-body k (decoded (take k (drop lengthSize rest))) (h .0) (fits (take k (drop lengthSize rest)))
 
   pub good : Good records rest (turnOf n offset records t rest)
   unfolding turnOf

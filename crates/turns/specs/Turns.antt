@@ -12,7 +12,7 @@ use Rattle.frames.specs.declared.Decoded.{Decoded}
 use Rattle.frames.specs.declared.Decoded.the-variants.{Whole, Unknown, Misfit}
 use Rattle.frames.specs.declared.Frame.{Frame}
 use Rattle.frames.specs.declared.Frame.the-variants.{Nothing, Short, Body}
-use Rattle.frames.specs.Decode.{frameOf, decoded}
+use Rattle.frames.specs.Decode.{lengthSize, frameOf, decoded}
 use Rattle.turns.specs.declared.Turn.{Turn}
 use Rattle.turns.specs.declared.Turn.the-variants.{Wait, Said, Stop}
 use Rattle.turns.specs.Faults.{misfit, unknownKind, stopLine}
@@ -39,7 +39,7 @@ pub data Turned : Type 0 where
 unfoldable pub callTurn : ℕ → ℕ → Tables → List ℕ → Call → Turned
 callTurn n records t b c =
     let o : Outcome = performed records t c b in
-    says (lineOf n (o .answer)) (2 + length b) (recordsAfter records c (o .answer)) (o .tables)
+    says (lineOf n (o .answer)) (lengthSize + length b) (recordsAfter records c (o .answer)) (o .tables)
 
 -- the turn of a body b, whose length stands at the offset
 unfoldable pub bodyTurn : ℕ → ℕ → ℕ → Tables → List ℕ → Decoded → Turned
@@ -51,7 +51,7 @@ bodyTurn n offset records t b (Whole c) = callTurn n records t b c
 unfoldable pub frameTurn : ℕ → ℕ → ℕ → Tables → List ℕ → Frame → Turned
 frameTurn n offset records t rest Nothing = waits
 frameTurn n offset records t rest Short = waits
-frameTurn n offset records t rest (Body k) = let b : List ℕ = take k (drop 2 rest) in bodyTurn n offset records t b (decoded b)
+frameTurn n offset records t rest (Body k) = let b : List ℕ = take k (drop lengthSize rest) in bodyTurn n offset records t b (decoded b)
 
 unfoldable pub turnOf : ℕ → ℕ → ℕ → Tables → List ℕ → Turned
 turnOf n offset records t rest = frameTurn n offset records t rest (frameOf rest)

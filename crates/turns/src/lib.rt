@@ -12,6 +12,7 @@ ghost use Rattle.turns.specs.Promises.{leftTables, Taken};
 use frames::Call;
 use frames::Decoded;
 use frames::Frame;
+use frames::LENGTH;
 use frames::PLAN_FROM;
 use frames::decode;
 use frames::split;
@@ -190,7 +191,7 @@ fn call_turn(
     let a = perform(c, b, records, values, words, seats);
     let len = say(out, at, n, a);
     let lent = records_after(c, a, records);
-    Turn::Said(2 + b.len(), len, lent)
+    Turn::Said(LENGTH + b.len(), len, lent)
 }
 
 // Takes the turn of a body: a call, or a fault that stops the tape.
@@ -239,7 +240,7 @@ pub fn take_turn(
 {
     let f = split(rest);
     match f {
-        Frame::Body(k) => body_turn(&rest[2..2 + k], n, offset, records, values, words, seats, out, at),
+        Frame::Body(k) => body_turn(&rest[LENGTH..LENGTH + k], n, offset, records, values, words, seats, out, at),
         Frame::Short => Turn::Wait,
         Frame::Nothing => Turn::Wait,
     }

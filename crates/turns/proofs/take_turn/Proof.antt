@@ -7,7 +7,7 @@ use denote.Ref.{now}
 use lib.ListN.{length}
 use borrow.Author.Needs.{needs}
 use Rattle.frames.specs.declared.Frame.the-variants.{Body}
-use Rattle.frames.specs.Decode.{frameOf}
+use Rattle.frames.specs.Decode.{lengthSize, frameOf}
 use Rattle.turns.specs.Turns.{turnOf, frameTurn}
 use Rattle.turns.specs.Laws.{put-nothing}
 use Rattle.turns.proofs.Turning.{body-inside}
@@ -21,7 +21,7 @@ start c = search
 frame-is : (c : tie.After-f) → frameOf (now (start c .args .rest)) ≡ Body (c .f .given .0 .0)
 frame-is c = let at-split : tie.After-split = search in sym (at-split .split .ensures) ∙ c .f .given .1
 
-body-within : (c : tie.After-f) → 2 + c .f .given .0 .0 ≤ length (now (start c .args .rest))
+body-within : (c : tie.After-f) → lengthSize + c .f .given .0 .0 ≤ length (now (start c .args .rest))
 body-within c = body-inside _ _ (frame-is c)
 
 add-body-turn : tie.Need-add-body-turn
@@ -35,7 +35,7 @@ unfolding turnOf frameTurn
 returns c =
     let at-turn : tie.After-body-turn = search in
     let at-body : tie.After-f = search (at-turn) in
-    rw (frame-is at-body) (rw (add-sub-cancel-left 2 (at-body .f .given .0 .0)) at (at-turn .body-turn .ensures))
+    rw (frame-is at-body) (rw (add-sub-cancel-left lengthSize (at-body .f .given .0 .0)) at (at-turn .body-turn .ensures))
 
 -- WHERE THERE IS NONE
 returns-2 : tie.Need-returns-2
