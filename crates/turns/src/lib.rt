@@ -240,7 +240,17 @@ pub fn take_turn(
 {
     let f = split(rest);
     match f {
-        Frame::Body(k) => body_turn(&rest[LENGTH..LENGTH + k], n, offset, records, values, words, seats, out, at),
+        Frame::Body(k) => body_turn(
+            &rest[LENGTH..LENGTH + k],
+            n,
+            offset,
+            records,
+            values,
+            words,
+            seats,
+            out,
+            at,
+        ),
         Frame::Short => Turn::Wait,
         Frame::Nothing => Turn::Wait,
     }
