@@ -46,10 +46,12 @@ pub const RECORDS: usize = MOST_RECORDS as usize;
 
 pub const SEATS: usize = SEATS_LENGTH as usize;
 
-// The byte that a tape begins with. Its first call stands behind it.
+// The byte that a tape begins with, and where its calls do.
 pub const VERSION: u8 = 1;
 
-pub const FIRST_OFFSET: u64 = 1;
+pub const CALLS_FROM: usize = 1;
+
+pub const FIRST_OFFSET: u64 = CALLS_FROM as u64;
 
 // The greatest number of 64 bits.
 const GREATEST: u64 = 18446744073709551615;
@@ -176,7 +178,7 @@ fn lines(tape: &[u8], out: &mut [u8]) -> usize
 {
     if 0 < tape.len() {
         if tape[0] == VERSION {
-            return calls(&tape[1..], out);
+            return calls(&tape[CALLS_FROM..], out);
         }
     }
     turns::stop(out, 0, Fault::NoVersion, 0)

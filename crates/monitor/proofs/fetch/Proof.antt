@@ -1,12 +1,12 @@
--- `monitor::fill` meets its contract: only what lies behind the waiting bytes is lent. Assumes nothing.
+-- `monitor::fetch` meets its contract: only what lies behind the waiting bytes is lent. Assumes nothing.
 use native.Mathlib.Omega.{arith}
 use borrow.Author.Needs.{needs}
 use borrow.Rule.Slice.PartMut.{take-put}
 use denote.Ref.{now}
 use lib.ListN.{length}
 use Prim.Native.Nat.{_-_}
-use Rattle.monitor.proofs.fill.Statement.{statement}
-use Rattle.monitor.proofs.fill.Tie as tie
+use Rattle.monitor.proofs.fetch.Statement.{statement}
+use Rattle.monitor.proofs.fetch.Tie as tie
 
 returns : tie.Need-returns
 returns c =
@@ -19,8 +19,8 @@ returns c =
       stays = take-put (start .args .waiting) (length buf - start .args .waiting) buf (at-read .read .last .1 .0) (omega arith);
     }
 
-pub fill-spec : {M : Type 1} → statement M
-fill-spec =
+pub fetch-spec : {M : Type 1} → statement M
+fetch-spec =
     tie.close
     (tie.spec
     (λ c. search needs)
