@@ -9,14 +9,14 @@ use lib.Dec.{eqb}
 use lib.ListN.{length, take, drop, getD, take-append-drop}
 use lib.Seq.{length-take-le, take-add, getD-take}
 use borrow.Author.Tests.{eq-eqb, ne-eqb, le-leb}
-use Rattle.text.specs.Text.{putIn, Appended}
+use Rattle.text.specs.Text.{greatest, putIn, Appended}
 use Rattle.rules.specs.Tables.{Tables}
 use Rattle.turns.specs.Faults.{noVersion, stopLine}
 use Rattle.turns.specs.Laws.{put-nothing}
 use Rattle.tape.specs.declared.Intake.{Intake}
 use Rattle.tape.specs.declared.Counts.{Counts}
 use Rattle.tape.specs.Lines.{State, endLine, version, firstOffset}
-use Rattle.tape.specs.Inner.{stateOf, greatest}
+use Rattle.tape.specs.Inner.{stateOf}
 use Rattle.tape.specs.Promises.{atFront, part, unfit, unfitFor, Closed, Absorbed}
 use Rattle.tape.specs.Room.{Fit, fit, not-unfit, drop-take, put-front, end-line}
 use Rattle.flow.specs.declared.Flow.{Flow}

@@ -37,7 +37,8 @@ frame-append a b k e =
 
 body-append : (a b : List ℕ) (k : ℕ) → lengthSize + k ≤ length a → take k (drop lengthSize (a ++ b)) ≡ take k (drop lengthSize a)
 body-append a b k h =
-    ap (λ (l : List ℕ). take k l) (drop-append-le lengthSize a b (omega arith)) ∙ take-append-le k (drop lengthSize a) b (omega (arith, length-drop lengthSize a))
+    ap (λ (l : List ℕ). take k l) (drop-append-le lengthSize a b (omega arith))
+    ∙ take-append-le k (drop lengthSize a) b (omega (arith, length-drop lengthSize a))
 
 -- a turn that is taken is taken the same when more bytes follow
 abbrev Same : State → List ℕ → List ℕ → Turned → Type 0
@@ -88,7 +89,8 @@ fed-fuel f g s t h i =
 -- TWO PARTS: what a first part says and leaves, and what the parts after it say
 record Joins (b : List ℕ) (s : State) (a : List ℕ) (o : Fed) : Type 0 where
   stopped : o .stopped ≡ true → (F : ℕ) → length (a ++ b) ≤ F → (fed F s (a ++ b) .text ≡ o .text) × (fed F s (a ++ b) .stopped ≡ true)
-  goes : o .stopped ≡ false → (F G : ℕ) → length (a ++ b) ≤ F → length (o .left ++ b) ≤ G → fed F s (a ++ b) ≡ behind (o .text) (fed G (o .state) (o .left ++ b))
+  goes : o .stopped ≡ false → (F G : ℕ) → length (a ++ b) ≤ F → length (o .left ++ b) ≤ G
+      → fed F s (a ++ b) ≡ behind (o .text) (fed G (o .state) (o .left ++ b))
 
 joins-waits : (b : List ℕ) (s : State) (a : List ℕ) → turnFrom s a ≡ waits → Joins b s a (ended [] s a false)
 joins-waits b s a e = record { stopped = λ z. absurd (true≢false (sym z)); goes = λ _ F G h i. fed-fuel F G s (a ++ b) h i }

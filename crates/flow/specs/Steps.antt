@@ -47,7 +47,8 @@ held-opened : (s : State) (t : List ℕ) → Held s (length t) (opened s t)
 unfolding opened
 held-opened s t =
     cond-ind (Held s (length t)) (eqb (length t) 0) (λ _. record { offset = omega arith; calls = λ k. k; records = λ k. k; fits = omega arith }) (λ _.
-    cond-ind (Held s (length t)) (eqb (getD t 0 0) version) (λ _. held-onward s (drop firstOffset t) (length t) (omega (arith, length-drop firstOffset t))) (λ _.
+    cond-ind (Held s (length t)) (eqb (getD t 0 0) version)
+    (λ _. held-onward s (drop firstOffset t) (length t) (omega (arith, length-drop firstOffset t))) (λ _.
     record { offset = omega arith; calls = λ k. k; records = λ k. k; fits = omega (arith, no-version-room) }))
 
 pub held : (s : Stand) (p : List ℕ) → Held (s .state) (length (s .left ++ p)) (stepped s p)

@@ -45,9 +45,11 @@ module _ (f : Flow) (buffer : List ℕ) (to : ℕ) (t : Tables) (out : List ℕ)
 
   all-bytes : length (stand .left ++ part buffer (f .waiting) to) ≡ to
   all-bytes =
-      let w : length (take (f .waiting) buffer) ≡ f .waiting = length-take-le (f .waiting) buffer (omega (arith, asked .behind, asked .within, asked .buffers .input)) in
+      let here : f .waiting ≤ to = asked .behind in
+      let inside : to ≤ length buffer = omega (arith, asked .within, asked .buffers .input) in
+      let w : length (take (f .waiting) buffer) ≡ f .waiting = length-take-le (f .waiting) buffer (omega arith) in
       let p : length (part buffer (f .waiting) to) ≡ to - f .waiting =
-      length-take-le (to - f .waiting) (drop (f .waiting) buffer) (omega (arith, asked .behind, asked .within, asked .buffers .input, length-drop (f .waiting) buffer)) in
+      length-take-le (to - f .waiting) (drop (f .waiting) buffer) (omega (arith, length-drop (f .waiting) buffer)) in
       omega (arith, length-append (take (f .waiting) buffer) (part buffer (f .waiting) to))
 
   -- a step is done whole, and its numbers grow by no more than what was read

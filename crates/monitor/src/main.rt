@@ -4,7 +4,7 @@ ghost use Prim.Native.Nat.{_≤_, _<_};
 ghost use lib.ListN.{length};
 ghost use Rattle.rules.specs.Tables.{tables};
 ghost use Rattle.rules.specs.Lent.{lent};
-ghost use Rattle.turns.specs.Promises.{leftTables};
+ghost use Rattle.answers.specs.Left.{leftTables};
 ghost use Rattle.monitor.specs.Program.{inputLength, outputLength, Buffers, Fetched, Asked, Pumped, Ended};
 use flow::Flow;
 use frames::LONGEST;

@@ -10,7 +10,7 @@ use lib.Dec.{leb}
 use lib.ListN.{length, drop, length-append, drop-of-length-le}
 use lib.Seq.{sets, length-sets}
 use borrow.Author.Tests.{leb-true, leb-false, le-leb}
-use Rattle.text.specs.Text.{putIn}
+use Rattle.text.specs.Text.{greatest, putIn}
 use Rattle.text.specs.Puts.{sets-at, put-fits}
 use Rattle.rules.specs.Tables.{Tables}
 use Rattle.rows.specs.Fine.{cond-ind}
@@ -21,7 +21,7 @@ use Rattle.turns.specs.Promises.{Taken}
 use Rattle.turns.specs.Laws.{turn-nothing, put-nothing}
 use Rattle.tape.specs.declared.Extent.{Extent}
 use Rattle.tape.specs.Lines.{State, turnFrom, further, Fed, ended, behind, fed}
-use Rattle.tape.specs.Inner.{greatest, capped, Ran}
+use Rattle.tape.specs.Inner.{capped, Ran}
 use Rattle.tape.specs.Runs.{turn-good, fed-waits, fed-stops, fed-says}
 
 -- SUMS THAT STOP

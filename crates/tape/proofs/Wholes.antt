@@ -9,13 +9,13 @@ use lib.Dec.{eqb}
 use lib.ListN.{length, drop, getD, length-drop, length-append}
 use lib.Seq.{sets}
 use borrow.Author.Tests.{eq-eqb, ne-eqb, eqb-true, eqb-false, le-leb, lt-leb}
-use Rattle.text.specs.Text.{bytes, lastLine, putIn, Appended}
+use Rattle.text.specs.Text.{greatest, bytes, lastLine, putIn, Appended}
 use Rattle.text.specs.Puts.{sets-at, put-fits}
 use Rattle.rules.specs.Tables.{Tables}
 use Rattle.turns.specs.Faults.{noVersion, cutShort, stopLine}
 use Rattle.tape.specs.declared.Extent.{Extent}
 use Rattle.tape.specs.Lines.{Fed, fed, endLine, lastOf, version, firstOffset, opening, callLines, linesOf}
-use Rattle.tape.specs.Inner.{greatest, capped, Ran, LinesIn}
+use Rattle.tape.specs.Inner.{capped, Ran, LinesIn}
 use Rattle.tape.specs.Promises.{Written, Closed}
 use Rattle.tape.specs.Room.{sets-front}
 use Rattle.tape.proofs.Running.{capped-small, capped-below, capped-sum}
@@ -67,7 +67,8 @@ module _ (part out₀ : List ℕ) (r : Extent) (t : Tables) (buffer : List ℕ) 
       let f : Fed = ran part in
       let last : List ℕ = endLine (eqb (length (f .left)) 0) (f .state .calls) (f .state .offset) in
       let k : callLines part ≡ f .text ++ last = end-lines part (sym (d .stopped) ∙ e) in
-      let x : endLine (eqb (r .used) (length part)) (r .calls) (firstOffset + r .used) ≡ last = rw (all-read (r .used) part (d .used), d .rest, d .calls, d .at) in
+      let x : endLine (eqb (r .used) (length part)) (r .calls) (firstOffset + r .used) ≡ last =
+      rw (all-read (r .used) part (d .used), d .rest, d .calls, d .at) in
       let a : length (f .text ++ last) ≡ length (f .text) + length last = length-append (f .text) last in
       rw k
       (record {

@@ -1,11 +1,12 @@
 -- What the code's inner functions ask for and leave: of a run over a part of a tape, and of the lines of the whole.
-use Prim.Native.Nat.{ℕ, _+_, _^_, _≤_, _<_}
+use Prim.Native.Nat.{ℕ, _+_, _≤_}
 use mathlib.Core.Path.{_≡_}
 use mathlib.Core.Bool.{cond}
 use mathlib.Core.List.{List}
 use lib.Dec.{leb}
 use lib.ListN.{length, drop}
 use lib.Seq.{sets}
+use Rattle.text.specs.Text.{greatest}
 use Rattle.rules.specs.Tables.{Tables}
 use Rattle.tape.specs.declared.Extent.{Extent}
 use Rattle.tape.specs.declared.Counts.{Counts}
@@ -15,10 +16,7 @@ use Rattle.tape.specs.Lines.{State, Fed}
 abbrev pub stateOf : Counts → Tables → State
 stateOf k t = record { calls = k .calls; offset = k .offset; records = k .records; tables = t }
 
--- the greatest number of 64 bits, and a sum that stops there
-abbrev pub greatest : ℕ
-greatest = 18446744073709551615
-
+-- a sum that stops at the greatest number of 64 bits
 abbrev pub capped : ℕ → ℕ → ℕ
 capped a b = cond (leb (a + b) greatest) (a + b) greatest
 

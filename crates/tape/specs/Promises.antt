@@ -5,7 +5,7 @@ use mathlib.Core.Bool.{Bool, true, false, cond, not}
 use mathlib.Core.List.{List, [], _∷_, _++_}
 use lib.Dec.{eqb, leb, ltb}
 use lib.ListN.{length, take, drop}
-use Rattle.text.specs.Text.{putIn}
+use Rattle.text.specs.Text.{greatest, putIn}
 use Rattle.rules.specs.Tests.{oneOf}
 use Rattle.rules.specs.Layout.{mostRecords}
 use Rattle.rules.specs.Tables.{Tables}
@@ -14,7 +14,7 @@ use Rattle.turns.specs.Turns.{lineRoom, lastRoom}
 use Rattle.tape.specs.declared.Intake.{Intake}
 use Rattle.tape.specs.declared.Counts.{Counts}
 use Rattle.tape.specs.Lines.{Fed, fed, linesOf}
-use Rattle.tape.specs.Inner.{stateOf, greatest, capped}
+use Rattle.tape.specs.Inner.{stateOf, capped}
 
 -- bytes at the front of a buffer, whose other bytes stay
 abbrev pub atFront : List ℕ → List ℕ → List ℕ

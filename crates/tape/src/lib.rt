@@ -4,7 +4,7 @@ ghost use Prim.Native.Nat.{_-_, _≤_};
 ghost use lib.ListN.{length, drop};
 ghost use lib.Seq.{paste};
 ghost use Rattle.rules.specs.Lent.{lent};
-ghost use Rattle.turns.specs.Promises.{leftTables};
+ghost use Rattle.answers.specs.Left.{leftTables};
 ghost use Rattle.tape.specs.Lines.{fed, endLine, callLines, linesOf};
 ghost use Rattle.tape.specs.Inner.{stateOf, capped, Counted, Lies, Ran, LinesIn};
 ghost use Rattle.tape.specs.Promises.{Written, Closed, Unfit, Absorbed};

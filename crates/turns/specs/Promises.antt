@@ -2,16 +2,10 @@
 use Prim.Native.Nat.{ℕ}
 use mathlib.Core.Path.{_≡_, sym, _∙_}
 use mathlib.Core.List.{List}
-use denote.Ref.{now}
 use Rattle.text.specs.Text.{putIn}
-use Rattle.rules.specs.Tables.{Tables, tables}
-use Rattle.rules.specs.Lent.{Lent}
+use Rattle.rules.specs.Tables.{Tables}
 use Rattle.turns.specs.declared.Turn.{Turn}
 use Rattle.turns.specs.Turns.{Turned, turnIs, turnText, turnTables}
-
--- the tables that were lent, as the call left them
-abbrev pub leftTables : Lent → Lent → Lent → Tables
-leftTables values words seats = tables (now (values .exit)) (now (words .exit)) (now (seats .exit))
 
 -- `take_turn`: the answer, the tables after the turn, and its line put into the output at `at`
 pub record Taken (u : Turned) (t : Tables) (out : List ℕ) (at : ℕ) (r : Turn) (t′ : Tables) (out′ : List ℕ) : Type 0 where

@@ -5,7 +5,7 @@ use denote.Ref.{now}
 use lib.ListN.{length}
 use borrow.Author.Needs.{needs}
 use Rattle.tape.specs.Lines.{opening}
-use Rattle.tape.specs.Inner.{greatest}
+use Rattle.text.specs.Text.{greatest}
 use Rattle.tape.proofs.Wholes.{calls-stopped, calls-end}
 use Rattle.tape.proofs.calls.Statement.{statement}
 use Rattle.tape.proofs.calls.Tie as tie

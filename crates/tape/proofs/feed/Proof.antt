@@ -11,7 +11,8 @@ use lib.Seq.{take-all, drop-drop}
 use Rattle.rules.specs.Tables.{Tables, tables}
 use Rattle.turns.specs.Promises.{Taken}
 use Rattle.tape.specs.Lines.{State, turnFrom, Fed, fed}
-use Rattle.tape.specs.Inner.{greatest, stateOf}
+use Rattle.text.specs.Text.{greatest}
+use Rattle.tape.specs.Inner.{stateOf}
 use Rattle.tape.proofs.Running.{Going, going-start, Onward, taken-as, said, ran-waits, ran-stops, ran-all}
 use Rattle.tape.proofs.feed.Statement.{statement}
 use Rattle.tape.proofs.feed.Tie as tie

@@ -6,7 +6,7 @@ use mathlib.Core.List.{List, []}
 use denote.Ref.{now}
 use lib.ListN.{length}
 use borrow.Author.Needs.{needs}
-use Rattle.tape.specs.Inner.{greatest}
+use Rattle.text.specs.Text.{greatest}
 use Rattle.tape.proofs.Wholes.{nothing-of, run-fits, run-not}
 use Rattle.tape.proofs.run.Statement.{statement}
 use Rattle.tape.proofs.run.Tie as tie

@@ -3,7 +3,7 @@ use mathlib.Core.Path.{sym}
 use native.Mathlib.Omega.{arith}
 use borrow.Author.Needs.{needs}
 use borrow.Author.Tests.{lt-leb}
-use Rattle.tape.specs.Inner.{greatest}
+use Rattle.text.specs.Text.{greatest}
 use Rattle.tape.proofs.Running.{capped-small}
 use Rattle.tape.proofs.sum.Statement.{statement}
 use Rattle.tape.proofs.sum.Tie as tie

@@ -102,7 +102,8 @@ returns-2 c =
     let at-call : tie.After-c2 = search (at-open) in
     let lent : tie.After-first-of2 = search (at-call) in
     let d = at-call .c2 .given .0 in
-    rw (at-call .c2 .given .1) (returned lent (λ (x : Tables). openSeat x (d .0)) (at-open .«open» .ensures) (values-stay lent) (words-stay lent))
+    rw (at-call .c2 .given .1)
+    (returned lent (λ (x : Tables). openSeat x (d .0)) (at-open .«open» .ensures) (values-stay lent) (words-stay lent))
 
 returns-3 : tie.Need-returns-3
 unfolding performed step
@@ -111,7 +112,8 @@ returns-3 c =
     let at-call : tie.After-c3 = search (at-read) in
     let lent : tie.After-first-of2 = search (at-call) in
     let d = at-call .c3 .given .0 in
-    rw (at-call .c3 .given .1) (returned lent (λ (x : Tables). read x (d .0) (d .1 .0) (d .1 .1 .0)) (at-read .read .ensures) (values-stay lent) (words-stay lent))
+    rw (at-call .c3 .given .1)
+    (returned lent (λ (x : Tables). read x (d .0) (d .1 .0) (d .1 .1 .0)) (at-read .read .ensures) (values-stay lent) (words-stay lent))
 
 returns-4 : tie.Need-returns-4
 unfolding performed step
@@ -120,7 +122,8 @@ returns-4 c =
     let at-call : tie.After-c4 = search (at-write) in
     let lent : tie.After-first-of2 = search (at-call) in
     let d = at-call .c4 .given .0 in
-    rw (at-call .c4 .given .1) (returned lent (λ (x : Tables). write x (d .0) (d .1 .0) (d .1 .1 .0) (d .1 .1 .1 .0)) (at-write .write .ensures) (values-stay lent) (words-stay lent))
+    rw (at-call .c4 .given .1)
+    (returned lent (λ (x : Tables). write x (d .0) (d .1 .0) (d .1 .1 .0) (d .1 .1 .1 .0)) (at-write .write .ensures) (values-stay lent) (words-stay lent))
 
 returns-5 : tie.Need-returns-5
 unfolding performed step
@@ -129,7 +132,8 @@ returns-5 c =
     let at-call : tie.After-c5 = search (at-advance) in
     let lent : tie.After-first-of2 = search (at-call) in
     let d = at-call .c5 .given .0 in
-    rw (at-call .c5 .given .1) (returned lent (λ (x : Tables). advance x (d .0) (d .1 .0)) (at-advance .advance .ensures) refl refl)
+    rw (at-call .c5 .given .1)
+    (returned lent (λ (x : Tables). advance x (d .0) (d .1 .0)) (at-advance .advance .ensures) refl refl)
 
 returns-6 : tie.Need-returns-6
 unfolding performed step
@@ -138,7 +142,8 @@ returns-6 c =
     let at-call : tie.After-c6 = search (at-abandon) in
     let lent : tie.After-first-of2 = search (at-call) in
     let d = at-call .c6 .given .0 in
-    rw (at-call .c6 .given .1) (returned lent (λ (x : Tables). abandon x (d .0) (d .1 .0)) (at-abandon .abandon .ensures) (values-stay lent) refl)
+    rw (at-call .c6 .given .1)
+    (returned lent (λ (x : Tables). abandon x (d .0) (d .1 .0)) (at-abandon .abandon .ensures) (values-stay lent) refl)
 
 pub perform-spec : {M : Type 1} → statement M
 perform-spec =
