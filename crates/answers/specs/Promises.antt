@@ -4,7 +4,7 @@ use mathlib.Core.Path.{_≡_, sym, _∙_}
 use Rattle.rules.specs.Answers.{kind, number}
 use Rattle.rules.specs.declared.Answer.{Answer}
 use Rattle.answers.specs.declared.Spelled.{Spelled}
-use Rattle.answers.specs.Spelling.{spelling}
+use Rattle.answers.specs.Spelling.{spelled}
 
 -- the number of an answer's word
 abbrev pub KindIs : Answer → ℕ → Type 0
@@ -21,8 +21,8 @@ pub NumberIs-one : (a : Answer) (r q : ℕ) → NumberIs a r → NumberIs a q �
 NumberIs-one a r q e f = e ∙ sym f
 
 -- the word of an answer
-abbrev pub WordIs : Answer → Spelled → Type 0
-WordIs a r = r ≡ spelling a
+abbrev pub SpelledIs : Answer → Spelled → Type 0
+SpelledIs a r = r ≡ spelled a
 
-pub WordIs-one : (a : Answer) (r q : Spelled) → WordIs a r → WordIs a q → r ≡ q
-WordIs-one a r q e f = e ∙ sym f
+pub SpelledIs-one : (a : Answer) (r q : Spelled) → SpelledIs a r → SpelledIs a q → r ≡ q
+SpelledIs-one a r q e f = e ∙ sym f

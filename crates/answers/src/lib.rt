@@ -1,11 +1,12 @@
 // The document's word and number of every answer, for lines of text and for hosts.
 ghost use mathlib.Core.Path.{_≡_};
-ghost use Rattle.answers.specs.Promises.{KindIs, NumberIs, WordIs};
+ghost use Rattle.answers.specs.Promises.{KindIs, NumberIs, SpelledIs};
 use rules::Answer;
+use text::MOST_LETTERS;
 
-// A word's letters, at the front of ten bytes, with spaces behind.
+// A word's letters, at the front of as many bytes as a line takes of it, with spaces behind.
 pub struct Spelled {
-    pub letters: [u8; 10],
+    pub letters: [u8; MOST_LETTERS],
     pub len: usize,
 }
 
@@ -51,7 +52,7 @@ pub fn number_of(a: Answer) -> u64
     }
 }
 
-fn word_of(letters: [u8; 10], len: usize) -> Spelled
+fn padded(letters: [u8; MOST_LETTERS], len: usize) -> Spelled
     ensures { λ r. ⌜ r ≡ record { letters = letters; len = len } ⌝ }
 {
     Spelled { letters, len }
@@ -59,21 +60,21 @@ fn word_of(letters: [u8; 10], len: usize) -> Spelled
 
 // The word of an answer.
 pub fn spell(a: Answer) -> Spelled
-    ensures { λ r. ⌜ WordIs a r ⌝ }
+    ensures { λ r. ⌜ SpelledIs a r ⌝ }
 {
     match a {
-        Answer::Ready(_) => word_of(*b"ready     ", 5),
-        Answer::Seat(_) => word_of(*b"seat      ", 4),
-        Answer::Value(_) => word_of(*b"value     ", 5),
-        Answer::Noted(_) => word_of(*b"noted     ", 5),
-        Answer::Locked(_) => word_of(*b"locked    ", 6),
-        Answer::Timed(_) => word_of(*b"timed     ", 5),
-        Answer::Checked(_) => word_of(*b"checked   ", 7),
-        Answer::Sealed(_) => word_of(*b"sealed    ", 6),
-        Answer::Stored(_) => word_of(*b"stored    ", 6),
-        Answer::Done(_) => word_of(*b"done      ", 4),
-        Answer::Dropped(_) => word_of(*b"dropped   ", 7),
-        Answer::Refused(_) => word_of(*b"refused   ", 7),
-        Answer::Aborted(_) => word_of(*b"aborted   ", 7),
+        Answer::Ready(_) => padded(*b"ready     ", 5),
+        Answer::Seat(_) => padded(*b"seat      ", 4),
+        Answer::Value(_) => padded(*b"value     ", 5),
+        Answer::Noted(_) => padded(*b"noted     ", 5),
+        Answer::Locked(_) => padded(*b"locked    ", 6),
+        Answer::Timed(_) => padded(*b"timed     ", 5),
+        Answer::Checked(_) => padded(*b"checked   ", 7),
+        Answer::Sealed(_) => padded(*b"sealed    ", 6),
+        Answer::Stored(_) => padded(*b"stored    ", 6),
+        Answer::Done(_) => padded(*b"done      ", 4),
+        Answer::Dropped(_) => padded(*b"dropped   ", 7),
+        Answer::Refused(_) => padded(*b"refused   ", 7),
+        Answer::Aborted(_) => padded(*b"aborted   ", 7),
     }
 }

@@ -1,5 +1,6 @@
 // The calls for hosts in C and Rust, on slices and numbers. Each returns the number of the answer's word and puts the number that it carries into `number`.
-ghost use Rattle.rules.specs.Tables.{tables};
+ghost use Rattle.rules.specs.Lent.{lent};
+ghost use Rattle.answers.specs.Left.{leftTables};
 ghost use Rattle.rules.specs.Plan.{setup, openSeat};
 ghost use Rattle.rules.specs.Work.{read, write};
 ghost use Rattle.rules.specs.Advance.{advance, abandon};
@@ -14,10 +15,7 @@ pub extern "C" fn ponsevran_setup(
     plan: &[u64; 32],
     number: &mut u64,
 ) -> u64
-    ensures { λ r. ⌜
-        Given (setup (tables (now (values .entry)) (now (words .entry)) (now (seats .entry))) start (now (plan .entry)))
-        r (now (number .exit)) (now (values .entry)) (now (words .exit)) (now (seats .exit))
-        ⌝ }
+    ensures { λ r. ⌜ Given (setup (lent values words seats) start (now (plan .entry))) r (now (number .exit)) (leftTables values words seats) ⌝ }
 {
     let a = plan::setup(values, words, seats, start, plan);
     *number = answers::number_of(a);
@@ -32,10 +30,7 @@ pub extern "C" fn ponsevran_open(
     owner: u64,
     number: &mut u64,
 ) -> u64
-    ensures { λ r. ⌜
-        Given (openSeat (tables (now (values .entry)) (now (words .entry)) (now (seats .entry))) owner)
-        r (now (number .exit)) (now (values .entry)) (now (words .entry)) (now (seats .exit))
-        ⌝ }
+    ensures { λ r. ⌜ Given (openSeat (lent values words seats) owner) r (now (number .exit)) (leftTables values words seats) ⌝ }
 {
     let a = plan::open(values, words, seats, owner);
     *number = answers::number_of(a);
@@ -52,10 +47,7 @@ pub extern "C" fn ponsevran_read(
     item: u64,
     number: &mut u64,
 ) -> u64
-    ensures { λ r. ⌜
-        Given (read (tables (now (values .entry)) (now (words .entry)) (now (seats .entry))) owner seat item)
-        r (now (number .exit)) (now (values .entry)) (now (words .entry)) (now (seats .exit))
-        ⌝ }
+    ensures { λ r. ⌜ Given (read (lent values words seats) owner seat item) r (now (number .exit)) (leftTables values words seats) ⌝ }
 {
     let a = work::read(values, words, seats, owner, seat, item);
     *number = answers::number_of(a);
@@ -73,10 +65,7 @@ pub extern "C" fn ponsevran_write(
     value: u64,
     number: &mut u64,
 ) -> u64
-    ensures { λ r. ⌜
-        Given (write (tables (now (values .entry)) (now (words .entry)) (now (seats .entry))) owner seat item value)
-        r (now (number .exit)) (now (values .entry)) (now (words .entry)) (now (seats .exit))
-        ⌝ }
+    ensures { λ r. ⌜ Given (write (lent values words seats) owner seat item value) r (now (number .exit)) (leftTables values words seats) ⌝ }
 {
     let a = work::write(values, words, seats, owner, seat, item, value);
     *number = answers::number_of(a);
@@ -92,10 +81,7 @@ pub extern "C" fn ponsevran_advance(
     seat: u64,
     number: &mut u64,
 ) -> u64
-    ensures { λ r. ⌜
-        Given (advance (tables (now (values .entry)) (now (words .entry)) (now (seats .entry))) owner seat)
-        r (now (number .exit)) (now (values .exit)) (now (words .exit)) (now (seats .exit))
-        ⌝ }
+    ensures { λ r. ⌜ Given (advance (lent values words seats) owner seat) r (now (number .exit)) (leftTables values words seats) ⌝ }
 {
     let a = commit::advance(values, words, seats, owner, seat);
     *number = answers::number_of(a);
@@ -111,10 +97,7 @@ pub extern "C" fn ponsevran_abandon(
     seat: u64,
     number: &mut u64,
 ) -> u64
-    ensures { λ r. ⌜
-        Given (abandon (tables (now (values .entry)) (now (words .entry)) (now (seats .entry))) owner seat)
-        r (now (number .exit)) (now (values .entry)) (now (words .exit)) (now (seats .exit))
-        ⌝ }
+    ensures { λ r. ⌜ Given (abandon (lent values words seats) owner seat) r (now (number .exit)) (leftTables values words seats) ⌝ }
 {
     let a = commit::abandon(values, words, seats, owner, seat);
     *number = answers::number_of(a);

@@ -4,13 +4,13 @@ use mathlib.Core.Path.{_≡_, refl, ap, sym, _∙_}
 use mathlib.Core.List.{List, [], _∷_, _++_, append-nil, append-assoc}
 use lib.ListN.{length, take, drop}
 use lib.Seq.{take-append-seam}
-use Rattle.rules.specs.Tables.{Tables, tables}
+use Rattle.rules.specs.Tables.{Tables}
 use Rattle.tape.specs.Lines.{opening, linesOf}
 use Rattle.tape.specs.Promises.{part}
 use Rattle.tape.specs.Room.{put-front}
 use Rattle.flow.specs.declared.Flow.{Flow}
 use Rattle.flow.specs.Parts.{Stand, Step, start, stepped, closing, lastText, printed, joined}
-use Rattle.flow.specs.Promises.{standOf, closingOf, Opened, Went, Finished}
+use Rattle.flow.specs.Promises.{standOf, closingOf, Started, Went, Finished}
 use Rattle.flow.specs.Steps.{stands}
 use Rattle.flow.specs.Host.{Host, begins, reads}
 use Rattle.flow.proofs.Stream.{parts-lines}
@@ -20,16 +20,16 @@ record Reached (f : Flow) (t : Tables) (buffer : List ℕ) (parts : List (List �
   waits : length (take (f .waiting) buffer) ≡ f .waiting
   prints : (more : List (List ℕ)) → printed start (parts ++ more) ≡ written ++ printed (standOf f t buffer) more
 
-begun : {f : Flow} {buffer : List ℕ} → Opened f → Reached f (opening .tables) buffer [] []
+begun : {f : Flow} {buffer : List ℕ} → Started f → Reached f (opening .tables) buffer [] []
 begun e = rw e record { waits = refl; prints = λ more. refl }
 
 -- the text of a step, as it stands in the output
-texted : (o : Step) (buffer out : List ℕ) {r : Flow} {buffer′ values′ words′ seats′ out′ : List ℕ}
-    → Went o buffer out r buffer′ values′ words′ seats′ out′ → take (r .end) out′ ≡ o .text
+texted : (o : Step) (buffer out : List ℕ) {r : Flow} {buffer′ : List ℕ} {t′ : Tables} {out′ : List ℕ}
+    → Went o buffer out r buffer′ t′ out′ → take (r .end) out′ ≡ o .text
 texted o buffer out w = rw (w .answer-is, w .out-is) (take-append-seam (o .text) (drop (length (o .text)) out))
 
-waited : (o : Step) (buffer out : List ℕ) {r : Flow} {buffer′ values′ words′ seats′ out′ : List ℕ}
-    → Went o buffer out r buffer′ values′ words′ seats′ out′ → length (take (r .waiting) buffer′) ≡ r .waiting
+waited : (o : Step) (buffer out : List ℕ) {r : Flow} {buffer′ : List ℕ} {t′ : Tables} {out′ : List ℕ}
+    → Went o buffer out r buffer′ t′ out′ → length (take (r .waiting) buffer′) ≡ r .waiting
 waited o buffer out w =
     rw (w .answer-is, w .buffer-is) (ap length (take-append-seam (o .stand .left) (drop (length (o .stand .left)) buffer)))
 
@@ -37,12 +37,11 @@ reached : {f : Flow} {t : Tables} {buffer : List ℕ} {parts : List (List ℕ)} 
     → Reached f t buffer parts written
 unfolding printed
 reached (begins e) = begun e
-reached (reads {f} {values} {words} {seats} {buffer} {front} {out} {to} {r} {buffer′} {values′} {words′} {seats′} {out′} {parts} {written} h same fine s) =
-    let t : Tables = tables values words seats in
+reached (reads {f} {t} {buffer} {front} {out} {to} {r} {buffer′} {t′} {out′} {parts} {written} h same fine s) =
     let before : standOf f t front ≡ standOf f t buffer = rw same in
     let p : List ℕ = part front (f .waiting) to in
     let o : Step = stepped (standOf f t front) p in
-    let w : Went o front out r buffer′ values′ words′ seats′ out′ = s .done fine in
+    let w : Went o front out r buffer′ t′ out′ = s .done fine in
     record {
       waits = waited o front out w;
       prints = λ more.

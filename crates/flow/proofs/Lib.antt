@@ -1,4 +1,4 @@
--- Laws that the proofs of several functions rest on (Standing), THE THEOREM (Stream), and what it says of the functions (Hosts).
-pub mod Standing
+-- Laws that the proofs of several functions rest on (Fronts), THE THEOREM (Stream), and what it says of the functions (Hosts).
+pub mod Fronts
 pub mod Stream
 pub mod Hosts

@@ -4,7 +4,8 @@ use mathlib.Core.Bool.{Bool, true, false, cond}
 use mathlib.Core.List.{List, [], _∷_, _++_}
 use lib.Dec.{eqb}
 use lib.ListN.{length, getD, drop}
-use Rattle.tape.specs.Lines.{State, Fed, fed, stopLine, endLine, opening}
+use Rattle.turns.specs.Faults.{noVersion, stopLine}
+use Rattle.tape.specs.Lines.{State, Fed, fed, endLine, version, firstOffset, opening}
 
 -- where a tape stands between two parts of it
 pub record Stand : Type 0 where
@@ -13,7 +14,7 @@ pub record Stand : Type 0 where
   -- its last line is printed
   pub stopped : Bool
   -- the calls so far, the offset of the next, the records that Setup gave, and the tables
-  pub kept : State
+  pub state : State
   -- the bytes that wait for more
   pub left : List ℕ
 
@@ -24,33 +25,33 @@ pub record Step : Type 0 where
 
 -- before any part: no byte is read
 abbrev pub start : Stand
-start = record { begun = false; stopped = false; kept = opening; left = [] }
+start = record { begun = false; stopped = false; state = opening; left = [] }
 
 -- the calls of the bytes t
 abbrev pub onward : State → List ℕ → Step
 onward s t =
     let f : Fed = fed (length t) s t in
-    record { text = f .text; stand = record { begun = true; stopped = f .stopped; kept = f .kept; left = f .left } }
+    record { text = f .text; stand = record { begun = true; stopped = f .stopped; state = f .state; left = f .left } }
 
--- the first bytes of a tape: none yet, so it waits; a version byte 1, and the calls behind it; or 31
+-- the first bytes of a tape: none yet, so it waits; a version byte 1, and the calls behind it; or another
 unfoldable pub opened : State → List ℕ → Step
 opened s t =
-    cond (eqb (length t) 0) (record { text = []; stand = record { begun = false; stopped = false; kept = s; left = [] } })
-    (cond (eqb (getD t 0 0) 1) (onward s (drop 1 t))
-    (record { text = stopLine 31 0; stand = record { begun = false; stopped = true; kept = s; left = [] } }))
+    cond (eqb (length t) 0) (record { text = []; stand = record { begun = false; stopped = false; state = s; left = [] } })
+    (cond (eqb (getD t 0 0) version) (onward s (drop firstOffset t))
+    (record { text = stopLine noVersion 0; stand = record { begun = false; stopped = true; state = s; left = [] } }))
 
 -- a part behind the bytes that wait; once the tape is stopped, nothing more is printed
 unfoldable pub stepped : Stand → List ℕ → Step
 stepped s part =
     cond (s .stopped) (record { text = []; stand = s })
-    (cond (s .begun) (onward (s .kept) (s .left ++ part)) (opened (s .kept) (s .left ++ part)))
+    (cond (s .begun) (onward (s .state) (s .left ++ part)) (opened (s .state) (s .left ++ part)))
 
--- what is printed where the tape ends: the last line, unless it is printed already. 31 where no version byte came
+-- what is printed where the tape ends: the last line, unless it is printed already
 unfoldable pub closing : Bool → Bool → ℕ → ℕ → ℕ → List ℕ
-closing begun stopped waiting calls offset = cond stopped [] (cond begun (endLine (eqb waiting 0) calls offset) (stopLine 31 0))
+closing begun stopped waiting calls offset = cond stopped [] (cond begun (endLine (eqb waiting 0) calls offset) (stopLine noVersion 0))
 
 abbrev pub lastText : Stand → List ℕ
-lastText s = closing (s .begun) (s .stopped) (length (s .left)) (s .kept .calls) (s .kept .offset)
+lastText s = closing (s .begun) (s .stopped) (length (s .left)) (s .state .calls) (s .state .offset)
 
 -- EVERY BYTE THAT A TAPE PRINTS, part by part, and then at its end
 unfoldable pub printed : Stand → List (List ℕ) → List ℕ

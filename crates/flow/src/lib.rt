@@ -1,16 +1,18 @@
 // A tape that comes in parts: where it stands between two of them, and what each prints.
 ghost use mathlib.Core.Path.{_≡_};
 ghost use mathlib.Core.Bool.{false};
-ghost use lib.ListN.{length};
-ghost use Rattle.text.specs.Text.{Appended};
 ghost use Rattle.rules.specs.Tables.{tables};
-ghost use Rattle.tape.specs.Lines.{stopLine};
-ghost use Rattle.tape.specs.Turns.{stateOf};
-ghost use Rattle.tape.specs.Promises.{part, unfit};
+ghost use Rattle.rules.specs.Lent.{lent};
+ghost use Rattle.answers.specs.Left.{leftTables};
+ghost use Rattle.tape.specs.Inner.{stateOf};
+ghost use Rattle.tape.specs.Promises.{part, unfitFor};
 ghost use Rattle.flow.specs.Parts.{onward, opened};
-ghost use Rattle.flow.specs.Promises.{tallyOf, unready, haltedAt, unbegunAt, Goes, Opened, Stepped, Finished};
-use tape::Tally;
+ghost use Rattle.flow.specs.Promises.{countsOf, unready, haltedAt, unbegunAt, Goes, Started, Stepped, Finished};
+use tape::CALLS_FROM;
+use tape::Counts;
+use tape::FIRST_OFFSET;
 use tape::VERSION;
+use turns::Fault;
 
 // What is kept from one part of a tape to the next.
 pub struct Flow {
@@ -29,23 +31,23 @@ pub struct Flow {
 
 // Before any byte is read. The first call stands behind the version byte.
 pub fn start() -> Flow
-    ensures { λ r. ⌜ Opened r ⌝ }
+    ensures { λ r. ⌜ Started r ⌝ }
 {
     Flow {
         begun: false,
         stopped: false,
         waiting: 0,
         calls: 0,
-        offset: 1,
+        offset: FIRST_OFFSET,
         records: 0,
         end: 0,
     }
 }
 
-fn tally(f: Flow) -> Tally
-    ensures { λ r. ⌜ r ≡ tallyOf f ⌝ }
+fn counts_of(f: Flow) -> Counts
+    ensures { λ r. ⌜ r ≡ countsOf f ⌝ }
 {
-    Tally {
+    Counts {
         calls: f.calls,
         offset: f.offset,
         records: f.records,
@@ -82,13 +84,6 @@ fn unbegun(f: Flow, stopped: bool, end: usize) -> Flow
     }
 }
 
-// The line of a tape that has no version byte 1.
-fn no_version(out: &mut [u8]) -> usize
-    ensures { λ r. ⌜ Appended (now (out .entry)) 0 (stopLine 31 0) r (now (out .exit)) ⌝ }
-{
-    text::last(out, 0, b"stopped 31", 0)
-}
-
 // Takes the calls of buf's bytes from `from` up to `to`.
 fn take_calls(
     f: Flow,
@@ -100,13 +95,12 @@ fn take_calls(
     seats: &mut [u64],
     out: &mut [u8],
 ) -> Flow
-    requires { ⌜ unfit (length (now buf)) from to (tallyOf f) (length (now values)) (length (now words)) (length (now out)) ≡ false ⌝ }
-    ensures { λ r. ⌜ Goes
-        (onward (stateOf (tallyOf f) (tables (now (values .entry)) (now (words .entry)) (now (seats .entry)))) (part (now (buf .entry)) from to))
-        (now (buf .entry)) (now (out .entry))
-        r (now (buf .exit)) (now (values .exit)) (now (words .exit)) (now (seats .exit)) (now (out .exit)) ⌝ }
+    requires { ⌜ unfitFor (now buf) from to (countsOf f) (tables (now values) (now words) (now seats)) (now out) ≡ false ⌝ }
+    ensures { λ r. ⌜
+        Goes (onward (stateOf (countsOf f) (lent values words seats)) (part (now (buf .entry)) from to)) (now (buf .entry)) (now (out .entry))
+        r (now (buf .exit)) (leftTables values words seats) (now (out .exit)) ⌝ }
 {
-    let r = tape::absorb(buf, from, to, tally(f), values, words, seats, out);
+    let r = tape::absorb(buf, from, to, counts_of(f), values, words, seats, out);
     Flow {
         begun: true,
         stopped: r.stopped,
@@ -128,19 +122,18 @@ fn open_tape(
     seats: &mut [u64],
     out: &mut [u8],
 ) -> Flow
-    requires { ⌜ unready f (now buf) to (now values) (now words) (now out) ≡ false ⌝ }
-    ensures { λ r. ⌜ Goes
-        (opened (stateOf (tallyOf f) (tables (now (values .entry)) (now (words .entry)) (now (seats .entry)))) (part (now (buf .entry)) 0 to))
-        (now (buf .entry)) (now (out .entry))
-        r (now (buf .exit)) (now (values .exit)) (now (words .exit)) (now (seats .exit)) (now (out .exit)) ⌝ }
+    requires { ⌜ unready f (now buf) to (tables (now values) (now words) (now seats)) (now out) ≡ false ⌝ }
+    ensures { λ r. ⌜
+        Goes (opened (stateOf (countsOf f) (lent values words seats)) (part (now (buf .entry)) 0 to)) (now (buf .entry)) (now (out .entry))
+        r (now (buf .exit)) (leftTables values words seats) (now (out .exit)) ⌝ }
 {
     if to == 0 {
         return unbegun(f, false, 0);
     }
     if buf[0] == VERSION {
-        return take_calls(f, buf, 1, to, values, words, seats, out);
+        return take_calls(f, buf, CALLS_FROM, to, values, words, seats, out);
     }
-    let end = no_version(out);
+    let end = turns::stop(out, 0, Fault::NoVersion, 0);
     unbegun(f, true, end)
 }
 
@@ -154,14 +147,15 @@ pub fn step(
     seats: &mut [u64],
     out: &mut [u8],
 ) -> Flow
-    ensures { λ r. ⌜ Stepped f (now (buf .entry)) to (now (values .entry)) (now (words .entry)) (now (seats .entry)) (now (out .entry))
-        r (now (buf .exit)) (now (values .exit)) (now (words .exit)) (now (seats .exit)) (now (out .exit)) ⌝ }
+    ensures { λ r. ⌜
+        Stepped f (now (buf .entry)) to (lent values words seats) (now (out .entry))
+        r (now (buf .exit)) (leftTables values words seats) (now (out .exit)) ⌝ }
 {
     if tape::is_unfit(
         buf.len(),
         f.waiting,
         to,
-        tally(f),
+        counts_of(f),
         values.len(),
         words.len(),
         out.len(),
@@ -187,5 +181,5 @@ pub fn finish(f: Flow, out: &mut [u8]) -> usize
     if f.begun {
         return tape::finish(out, 0, f.waiting == 0, f.calls, f.offset);
     }
-    no_version(out)
+    turns::stop(out, 0, Fault::NoVersion, 0)
 }

@@ -1,9 +1,10 @@
 // A tape's bytes to calls: where a call's body begins and ends, and which call it is.
 ghost use mathlib.Core.Path.{_≡_};
-ghost use Prim.Native.Nat.{_+_, _≤_, _<_, _^_};
-ghost use lib.ListN.{length, getD};
-ghost use Rattle.frames.specs.Decode.{be16 as be16Of, be32 as be32Of, be64 as be64Of, byKind, sized};
+ghost use Prim.Native.Nat.{_+_, _≤_};
+ghost use lib.ListN.{length};
+ghost use Rattle.frames.specs.Decode.{be16 as be16Of, be32 as be32Of, be64 as be64Of, byteSpan, twoSpan, fourSpan, IsBelow, byKind, sized};
 ghost use Rattle.frames.specs.Decode.{setupSize, openSize, readSize, writeSize, seatSize};
+ghost use Rattle.frames.specs.Decode.{setupCall, openCall, readCall, writeCall, advanceCall, abandonCall};
 ghost use Rattle.frames.specs.Promises.{FrameIs, CallIs};
 
 // What stands at the start of the rest of a tape.
@@ -51,6 +52,32 @@ pub enum Decoded {
     Misfit,
 }
 
+// How many numbers one byte has, two bytes, and four.
+const BYTE: u64 = 256;
+
+const TWO_BYTES: u64 = BYTE * BYTE;
+
+const FOUR_BYTES: u64 = TWO_BYTES * TWO_BYTES;
+
+// The bytes of a body's length.
+pub const LENGTH: usize = 2;
+
+// A frame has at most so many bytes: its length is a number of two bytes.
+pub const LONGEST: usize = LENGTH + (TWO_BYTES as usize - 1);
+
+// The kinds.
+const SETUP: u8 = 0;
+
+const OPEN: u8 = 1;
+
+const READ: u8 = 2;
+
+const WRITE: u8 = 3;
+
+const ADVANCE: u8 = 4;
+
+const ABANDON: u8 = 5;
+
 // The bytes of each kind's body, its kind byte counted.
 const SETUP_SIZE: usize = 43;
 
@@ -66,27 +93,27 @@ const SEAT_SIZE: usize = 3;
 pub const PLAN_FROM: usize = 11;
 
 fn wide(x: u8) -> u64
-    ensures { λ r. ⌜ (r ≡ x) × (r < 256) ⌝ }
+    ensures { λ r. ⌜ IsBelow x byteSpan r ⌝ }
 {
     x as u64
 }
 
 fn be16(b: &[u8], i: usize) -> u64
     requires { ⌜ i + 2 ≤ length (now b) ⌝ }
-    ensures { λ r. ⌜ (r ≡ be16Of (now (b .entry)) i) × (r < 65536) ⌝ }
+    ensures { λ r. ⌜ IsBelow (be16Of (now (b .entry)) i) twoSpan r ⌝ }
 {
     let h = wide(b[i]);
     let l = wide(b[i + 1]);
-    h * 256 + l
+    h * BYTE + l
 }
 
 fn be32(b: &[u8], i: usize) -> u64
     requires { ⌜ i + 4 ≤ length (now b) ⌝ }
-    ensures { λ r. ⌜ (r ≡ be32Of (now (b .entry)) i) × (r < 2 ^ 32) ⌝ }
+    ensures { λ r. ⌜ IsBelow (be32Of (now (b .entry)) i) fourSpan r ⌝ }
 {
     let h = be16(b, i);
     let l = be16(b, i + 2);
-    h * 65536 + l
+    h * TWO_BYTES + l
 }
 
 fn be64(b: &[u8], i: usize) -> u64
@@ -95,18 +122,18 @@ fn be64(b: &[u8], i: usize) -> u64
 {
     let h = be32(b, i);
     let l = be32(b, i + 4);
-    h * 4294967296 + l
+    h * FOUR_BYTES + l
 }
 
 pub fn split(t: &[u8]) -> Frame
     ensures { λ r. ⌜ FrameIs (now (t .entry)) r ⌝ }
 {
     if 0 < t.len() {
-        if t.len() < 2 {
+        if t.len() < LENGTH {
             return Frame::Short;
         }
         let n = be16(t, 0) as usize;
-        if n <= t.len() - 2 {
+        if n <= t.len() - LENGTH {
             return Frame::Body(n);
         }
         return Frame::Short;
@@ -128,18 +155,18 @@ fn by_kind(b: &[u8], kind: u8) -> Decoded
     ensures { λ r. ⌜ r ≡ byKind kind (now (b .entry)) ⌝ }
 {
     match kind {
-        0 => setup_of(b),
-        1 => open_of(b),
-        2 => read_of(b),
-        3 => write_of(b),
-        4 => advance_of(b),
-        5 => abandon_of(b),
+        SETUP => setup_call(b),
+        OPEN => open_call(b),
+        READ => read_call(b),
+        WRITE => write_call(b),
+        ADVANCE => advance_call(b),
+        ABANDON => abandon_call(b),
         _ => Decoded::Unknown,
     }
 }
 
-fn setup_of(b: &[u8]) -> Decoded
-    ensures { λ r. ⌜ r ≡ sized setupSize (now (b .entry)) (Call.Setup (be16Of (now (b .entry)) 1) (be64Of (now (b .entry)) 3)) ⌝ }
+fn setup_call(b: &[u8]) -> Decoded
+    ensures { λ r. ⌜ r ≡ sized setupSize (now (b .entry)) (setupCall (now (b .entry))) ⌝ }
 {
     if b.len() == SETUP_SIZE {
         return Decoded::Whole(Call::Setup {
@@ -150,8 +177,8 @@ fn setup_of(b: &[u8]) -> Decoded
     Decoded::Misfit
 }
 
-fn open_of(b: &[u8]) -> Decoded
-    ensures { λ r. ⌜ r ≡ sized openSize (now (b .entry)) (Call.Open (getD (now (b .entry)) 1 0)) ⌝ }
+fn open_call(b: &[u8]) -> Decoded
+    ensures { λ r. ⌜ r ≡ sized openSize (now (b .entry)) (openCall (now (b .entry))) ⌝ }
 {
     if b.len() == OPEN_SIZE {
         return Decoded::Whole(Call::Open(wide(b[1])));
@@ -159,8 +186,8 @@ fn open_of(b: &[u8]) -> Decoded
     Decoded::Misfit
 }
 
-fn read_of(b: &[u8]) -> Decoded
-    ensures { λ r. ⌜ r ≡ sized readSize (now (b .entry)) (Call.Read (getD (now (b .entry)) 1 0) (getD (now (b .entry)) 2 0) (be16Of (now (b .entry)) 3)) ⌝ }
+fn read_call(b: &[u8]) -> Decoded
+    ensures { λ r. ⌜ r ≡ sized readSize (now (b .entry)) (readCall (now (b .entry))) ⌝ }
 {
     if b.len() == READ_SIZE {
         return Decoded::Whole(Call::Read {
@@ -172,8 +199,8 @@ fn read_of(b: &[u8]) -> Decoded
     Decoded::Misfit
 }
 
-fn write_of(b: &[u8]) -> Decoded
-    ensures { λ r. ⌜ r ≡ sized writeSize (now (b .entry)) (Call.Write (getD (now (b .entry)) 1 0) (getD (now (b .entry)) 2 0) (be16Of (now (b .entry)) 3) (be64Of (now (b .entry)) 5)) ⌝ }
+fn write_call(b: &[u8]) -> Decoded
+    ensures { λ r. ⌜ r ≡ sized writeSize (now (b .entry)) (writeCall (now (b .entry))) ⌝ }
 {
     if b.len() == WRITE_SIZE {
         return Decoded::Whole(Call::Write {
@@ -186,8 +213,8 @@ fn write_of(b: &[u8]) -> Decoded
     Decoded::Misfit
 }
 
-fn advance_of(b: &[u8]) -> Decoded
-    ensures { λ r. ⌜ r ≡ sized seatSize (now (b .entry)) (Call.Advance (getD (now (b .entry)) 1 0) (getD (now (b .entry)) 2 0)) ⌝ }
+fn advance_call(b: &[u8]) -> Decoded
+    ensures { λ r. ⌜ r ≡ sized seatSize (now (b .entry)) (advanceCall (now (b .entry))) ⌝ }
 {
     if b.len() == SEAT_SIZE {
         return Decoded::Whole(Call::Advance {
@@ -198,8 +225,8 @@ fn advance_of(b: &[u8]) -> Decoded
     Decoded::Misfit
 }
 
-fn abandon_of(b: &[u8]) -> Decoded
-    ensures { λ r. ⌜ r ≡ sized seatSize (now (b .entry)) (Call.Abandon (getD (now (b .entry)) 1 0) (getD (now (b .entry)) 2 0)) ⌝ }
+fn abandon_call(b: &[u8]) -> Decoded
+    ensures { λ r. ⌜ r ≡ sized seatSize (now (b .entry)) (abandonCall (now (b .entry))) ⌝ }
 {
     if b.len() == SEAT_SIZE {
         return Decoded::Whole(Call::Abandon {

@@ -6,77 +6,78 @@ use mathlib.Core.Bool.{false}
 use mathlib.Core.List.{List, _++_}
 use lib.ListN.{length, take, drop, length-drop, length-append}
 use lib.Seq.{length-take-le}
-use Rattle.rules.specs.Tables.{tables}
+use Rattle.rules.specs.Tables.{Tables}
 use Rattle.tape.specs.Lines.{opening}
 use Rattle.tape.specs.Promises.{part}
 use Rattle.tape.specs.Room.{not-unfit, put-front}
 use Rattle.flow.specs.declared.Flow.{Flow}
 use Rattle.flow.specs.Parts.{Stand, Step, stepped}
-use Rattle.flow.specs.Promises.{standOf, flowOf, unready, closingOf, Opened, Stepped, Finished}
+use Rattle.flow.specs.Promises.{standOf, flowOf, unready, closingOf, Started, Stepped, Finished}
 use Rattle.flow.specs.Steps.{Held, held, closing-room}
-use Rattle.monitor.specs.Program.{inputLength, outputLength, mostTurns, Lent, Ready, Pumped, Ended}
+use Rattle.monitor.specs.Program.{inputLength, outputLength, mostTurns, Proceeds, Asked, Pumped, Ended}
 
 -- at the start, every turn is to come
-pub ready-first : {f : Flow} → Opened f → Ready f mostTurns
+pub first-turn : {f : Flow} → Started f → Proceeds f mostTurns
 unfolding opening
-ready-first e = rw e record { going = refl; roomy = omega arith; calls = omega arith; offset = omega arith; records = omega arith }
+first-turn e = rw e record { going = refl; roomy = omega arith; calls = omega arith; offset = omega arith; records = omega arith }
 
 -- with a turn to come, there is one
-pub ready-once : {f : Flow} {turns : ℕ} → 0 < turns → Ready f turns → Ready f 1
-ready-once h g = record { going = g .going; roomy = g .roomy; calls = g .calls; offset = omega (arith, g .offset); records = g .records }
+pub one-turn : {f : Flow} {turns : ℕ} → 0 < turns → Proceeds f turns → Proceeds f 1
+one-turn h g = record { going = g .going; roomy = g .roomy; calls = g .calls; offset = omega (arith, g .offset); records = g .records }
 
-module _ (f : Flow) (buffer : List ℕ) (to : ℕ) (values words seats out : List ℕ)
-    (lent : Lent buffer values words out) (ready : Ready f 1) (behind : f .waiting ≤ to) (within : to ≤ inputLength) where
-  fine : unready f buffer to values words out ≡ false
+module _ (f : Flow) (buffer : List ℕ) (to : ℕ) (t : Tables) (out : List ℕ) (asked : Asked f buffer to t out) where
+  fine : unready f buffer to t out ≡ false
   fine =
       not-unfit
       record {
-        inside = omega (arith, lent .input);
-        behind = behind;
-        calls = omega (arith, ready .calls, ready .offset);
-        offset = omega (arith, ready .offset);
-        records = ready .records;
-        values-are = lent .values-are;
-        words-are = lent .words-are;
-        roomy = omega (arith, lent .output);
+        inside = omega (arith, asked .within, asked .buffers .input);
+        behind = asked .behind;
+        calls = omega (arith, asked .proceeds .calls, asked .proceeds .offset);
+        offset = omega (arith, asked .proceeds .offset);
+        records = asked .proceeds .records;
+        values-are = asked .buffers .values-are;
+        words-are = asked .buffers .words-are;
+        roomy = omega (arith, asked .within, asked .buffers .output);
       }
 
   abbrev stand : Stand
-  stand = standOf f (tables values words seats) buffer
+  stand = standOf f t buffer
 
   all-bytes : length (stand .left ++ part buffer (f .waiting) to) ≡ to
   all-bytes =
-      let w : length (take (f .waiting) buffer) ≡ f .waiting = length-take-le (f .waiting) buffer (omega (arith, lent .input)) in
+      let here : f .waiting ≤ to = asked .behind in
+      let inside : to ≤ length buffer = omega (arith, asked .within, asked .buffers .input) in
+      let w : length (take (f .waiting) buffer) ≡ f .waiting = length-take-le (f .waiting) buffer (omega arith) in
       let p : length (part buffer (f .waiting) to) ≡ to - f .waiting =
-      length-take-le (to - f .waiting) (drop (f .waiting) buffer) (omega (arith, lent .input, length-drop (f .waiting) buffer)) in
+      length-take-le (to - f .waiting) (drop (f .waiting) buffer) (omega (arith, length-drop (f .waiting) buffer)) in
       omega (arith, length-append (take (f .waiting) buffer) (part buffer (f .waiting) to))
 
   -- a step is done whole, and its numbers grow by no more than what was read
-  pub pumped : {r : Flow} {buffer′ values′ words′ seats′ out′ : List ℕ} → Stepped f buffer to values words seats out r buffer′ values′ words′ seats′ out′
-      → Pumped f buffer to values words seats out r buffer′ values′ words′ seats′ out′
+  pub pumped : {r : Flow} {buffer′ : List ℕ} {t′ : Tables} {out′ : List ℕ} → Stepped f buffer to t out r buffer′ t′ out′
+      → Pumped f buffer to t out r buffer′ t′ out′
   pumped {r} s =
       let o : Step = stepped stand (part buffer (f .waiting) to) in
       let e : r ≡ flowOf o = s .done fine .answer-is in
-      let h : Held (stand .kept) to o = rw all-bytes at (held stand (part buffer (f .waiting) to)) in
+      let h : Held (stand .state) to o = rw all-bytes at (held stand (part buffer (f .waiting) to)) in
       let end : r .end ≡ length (o .text) = ap (λ (x : Flow). x .end) e in
-      let calls : r .calls ≡ o .stand .kept .calls = ap (λ (x : Flow). x .calls) e in
-      let offset : r .offset ≡ o .stand .kept .offset = ap (λ (x : Flow). x .offset) e in
+      let calls : r .calls ≡ o .stand .state .calls = ap (λ (x : Flow). x .calls) e in
+      let offset : r .offset ≡ o .stand .state .offset = ap (λ (x : Flow). x .offset) e in
       let waiting : r .waiting ≡ length (o .stand .left) = ap (λ (x : Flow). x .waiting) e in
-      let records : r .records ≡ o .stand .kept .records = ap (λ (x : Flow). x .records) e in
+      let records : r .records ≡ o .stand .state .records = ap (λ (x : Flow). x .records) e in
       record {
         went = s .done fine;
-        fits = omega (arith, h .room);
+        fits = omega (arith, h .fits, asked .within);
         roomy = λ e. omega (arith, s .short e);
-        calls = omega (arith, h .calls (ready .calls));
+        calls = omega (arith, h .calls (asked .proceeds .calls));
         offset = omega (arith, h .offset);
-        records = omega (arith, h .records (ready .records));
+        records = omega (arith, h .records (asked .proceeds .records));
       }
 
 -- one turn fewer is to come
-pub ready-next : {f : Flow} {buffer : List ℕ} {to : ℕ} {values words seats out : List ℕ} {r : Flow} {buffer′ values′ words′ seats′ out′ : List ℕ} (turns : ℕ)
-    → 0 < turns → Ready f turns → to ≤ inputLength → Pumped f buffer to values words seats out r buffer′ values′ words′ seats′ out′ → r .stopped ≡ false
-    → Ready r (turns - 1)
-ready-next turns h g within p e =
+pub next-turn : {f : Flow} {buffer : List ℕ} {to : ℕ} {t : Tables} {out : List ℕ} {r : Flow} {buffer′ : List ℕ} {t′ : Tables} {out′ : List ℕ} (turns : ℕ)
+    → 0 < turns → Proceeds f turns → to ≤ inputLength → Pumped f buffer to t out r buffer′ t′ out′ → r .stopped ≡ false
+    → Proceeds r (turns - 1)
+next-turn turns h g within p e =
     record {
       going = e;
       roomy = p .roomy e;
@@ -88,7 +89,7 @@ ready-next turns h g within p e =
 -- the last line has room
 pub ended : (f : Flow) {out : List ℕ} {r : ℕ} {out′ : List ℕ} → length out ≡ outputLength → Finished f out r out′ → Ended f out r out′
 ended f {out} h k =
-    let room = closing-room (f .begun) (f .stopped) (f .waiting) (f .calls) (f .offset) in
+    let small = closing-room (f .begun) (f .stopped) (f .waiting) (f .calls) (f .offset) in
     record {
       size = k .size;
       text = k .text ∙ put-front (closingOf f) out (omega arith);

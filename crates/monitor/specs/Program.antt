@@ -5,8 +5,8 @@ use mathlib.Core.Bool.{false}
 use mathlib.Core.List.{List}
 use lib.ListN.{length, take}
 use Rattle.rules.specs.Layout.{mostRecords}
-use Rattle.rules.specs.Tables.{tables}
-use Rattle.tape.specs.Runs.{longest}
+use Rattle.rules.specs.Tables.{Tables}
+use Rattle.frames.specs.Decode.{longest}
 use Rattle.tape.specs.Promises.{atFront, part, farOff, roomFor}
 use Rattle.monitor.specs.declared.Input.{Input}
 use Rattle.flow.specs.declared.Flow.{Flow}
@@ -20,10 +20,10 @@ inputLength = longest
 abbrev pub outputLength : ℕ
 outputLength = roomFor inputLength
 
-pub record Lent (buffer values words out : List ℕ) : Type 0 where
+pub record Buffers (buffer : List ℕ) (t : Tables) (out : List ℕ) : Type 0 where
   pub input : length buffer ≡ inputLength
-  pub values-are : length values ≡ mostRecords
-  pub words-are : length words ≡ mostRecords
+  pub values-are : length (t .values) ≡ mostRecords
+  pub words-are : length (t .words) ≡ mostRecords
   pub output : length out ≡ outputLength
 
 -- as many turns as are sure to leave every number small: each reads at most a full buffer
@@ -31,23 +31,30 @@ abbrev pub mostTurns : ℕ
 mostTurns = (farOff - 1) / inputLength
 
 -- a flow that a part can be given to, with so many turns to come: there is room to read into, so a read of no bytes is the end of the tape
-pub record Ready (f : Flow) (turns : ℕ) : Type 0 where
+pub record Proceeds (f : Flow) (turns : ℕ) : Type 0 where
   pub going : f .stopped ≡ false
   pub roomy : f .waiting < inputLength
   pub calls : f .calls ≤ f .offset
   pub offset : f .offset + f .waiting + inputLength * turns ≤ farOff
   pub records : f .records ≤ mostRecords
 
+-- what a step asks for
+pub record Asked (f : Flow) (buffer : List ℕ) (to : ℕ) (t : Tables) (out : List ℕ) : Type 0 where
+  pub buffers : Buffers buffer t out
+  pub proceeds : Proceeds f 1
+  pub behind : f .waiting ≤ to
+  pub within : to ≤ inputLength
+
 -- what was read stands behind the bytes that wait
-pub record Filled (buffer : List ℕ) (waiting : ℕ) (r : Input) (buffer′ : List ℕ) : Type 0 where
+pub record Fetched (buffer : List ℕ) (waiting : ℕ) (r : Input) (buffer′ : List ℕ) : Type 0 where
   pub behind : waiting ≤ r .to
   pub within : r .to ≤ length buffer
   pub stays : take waiting buffer′ ≡ take waiting buffer
 
 -- a part's step, done whole, and its numbers
-pub record Pumped (f : Flow) (buffer : List ℕ) (to : ℕ) (values words seats out : List ℕ)
-    (r : Flow) (buffer′ values′ words′ seats′ out′ : List ℕ) : Type 0 where
-  pub went : Went (stepped (standOf f (tables values words seats) buffer) (part buffer (f .waiting) to)) buffer out r buffer′ values′ words′ seats′ out′
+pub record Pumped (f : Flow) (buffer : List ℕ) (to : ℕ) (t : Tables) (out : List ℕ) (r : Flow) (buffer′ : List ℕ) (t′ : Tables) (out′ : List ℕ)
+    : Type 0 where
+  pub went : Went (stepped (standOf f t buffer) (part buffer (f .waiting) to)) buffer out r buffer′ t′ out′
   pub fits : r .end ≤ outputLength
   pub roomy : r .stopped ≡ false → r .waiting < inputLength
   pub calls : r .calls ≤ r .offset

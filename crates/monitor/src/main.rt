@@ -2,22 +2,26 @@
 ghost use mathlib.Core.Path.{_≡_};
 ghost use Prim.Native.Nat.{_≤_, _<_};
 ghost use lib.ListN.{length};
-ghost use Rattle.monitor.specs.Program.{inputLength, outputLength, Lent, Filled, Ready, Pumped, Ended};
+ghost use Rattle.rules.specs.Tables.{tables};
+ghost use Rattle.rules.specs.Lent.{lent};
+ghost use Rattle.answers.specs.Left.{leftTables};
+ghost use Rattle.monitor.specs.Program.{inputLength, outputLength, Buffers, Fetched, Asked, Pumped, Ended};
 use flow::Flow;
+use frames::LONGEST;
 use libc::STDERR_FILENO;
 use libc::STDIN_FILENO;
 use libc::STDOUT_FILENO;
 use tape::FAR_OFF;
-use tape::LAST_ROOM;
-use tape::LINE_ROOM;
+use turns::LAST_ROOM;
+use turns::LINE_ROOM;
 
-// A frame has at most 65537 bytes, so one always fits.
-const INPUT: usize = 65537;
+// One frame always fits.
+const INPUT: usize = LONGEST;
 
 // Room for the lines of a full input buffer.
 const OUTPUT: usize = LINE_ROOM * INPUT + LAST_ROOM;
 
-// A proved loop has to end, and nothing says that the input does. So many turns, each of a full input buffer, keep every number below 2^62.
+// A proved loop has to end, and nothing says that the input does. So many turns, each of a full input buffer, keep every number below FAR_OFF.
 const TURNS: u64 = (FAR_OFF - 1) / (INPUT as u64);
 
 // What a read came to: where the bytes then end, and whether it failed.
@@ -43,9 +47,9 @@ fn put(out: &[u8], end: usize) -> bool
 }
 
 // Reads once behind the bytes that wait, which stay. There is room, so that no bytes are the end of the input.
-fn fill(buf: &mut [u8], waiting: usize) -> Input
+fn fetch(buf: &mut [u8], waiting: usize) -> Input
     requires { ⌜ waiting < length (now buf) ⌝ }
-    ensures { λ r. ⌜ Filled (now (buf .entry)) waiting r (now (buf .exit)) ⌝ }
+    ensures { λ r. ⌜ Fetched (now (buf .entry)) waiting r (now (buf .exit)) ⌝ }
 {
     let got = libc::read(STDIN_FILENO, &mut buf[waiting..]);
     let n = io::count(got, &buf[waiting..]);
@@ -65,9 +69,10 @@ fn pump(
     seats: &mut [u64],
     out: &mut [u8],
 ) -> Flow
-    requires { ⌜ (Lent (now buf) (now values) (now words) (now out)) × (Ready f 1) × (f .waiting ≤ to) × (to ≤ inputLength) ⌝ }
-    ensures { λ r. ⌜ Pumped f (now (buf .entry)) to (now (values .entry)) (now (words .entry)) (now (seats .entry)) (now (out .entry))
-        r (now (buf .exit)) (now (values .exit)) (now (words .exit)) (now (seats .exit)) (now (out .exit)) ⌝ }
+    requires { ⌜ Asked f (now buf) to (tables (now values) (now words) (now seats)) (now out) ⌝ }
+    ensures { λ r. ⌜
+        Pumped f (now (buf .entry)) to (lent values words seats) (now (out .entry))
+        r (now (buf .exit)) (leftTables values words seats) (now (out .exit)) ⌝ }
 {
     flow::step(f, buf, to, values, words, seats, out)
 }
@@ -82,13 +87,13 @@ fn close(f: Flow, out: &mut [u8]) -> usize
 
 // Reads, hands on what was read, and writes what is given, to the end of the tape.
 fn play(buf: &mut [u8], values: &mut [u64], words: &mut [u64], seats: &mut [u64], out: &mut [u8])
-    requires { ⌜ Lent (now buf) (now values) (now words) (now out) ⌝ }
+    requires { ⌜ Buffers (now buf) (tables (now values) (now words) (now seats)) (now out) ⌝ }
 {
     let mut f = flow::start();
     let mut turns = TURNS;
     while turns > 0 {
         let waiting = f.waiting;
-        let input = fill(buf, waiting);
+        let input = fetch(buf, waiting);
         if input.failed {
             complain(b"monitor: the tape can't be read\n");
             return;

@@ -1,7 +1,4 @@
 -- Laws that more than one function's proof rests on.
-pub mod Copies
-pub mod Lending
-pub mod Turning
 pub mod Running
 pub mod Wholes
-pub mod Moved
+pub mod Shifted

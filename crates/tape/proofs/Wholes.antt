@@ -1,4 +1,4 @@
--- The whole tape: its calls and its last line, one pass over it, and the lines in a buffer. Assumes nothing.
+-- The whole tape: its calls and its last line, and the lines in a buffer. Assumes nothing.
 use Prim.Native.Nat.{ℕ, _+_, _≤_, _<_}
 use native.Mathlib.Omega.{arith}
 use native.Mathlib.Nat.{zero-add}
@@ -9,33 +9,41 @@ use lib.Dec.{eqb}
 use lib.ListN.{length, drop, getD, length-drop, length-append}
 use lib.Seq.{sets}
 use borrow.Author.Tests.{eq-eqb, ne-eqb, eqb-true, eqb-false, le-leb, lt-leb}
-use Rattle.text.specs.Text.{widthIn, widthOf, digits, decimal, bytes, lastLine, putIn, Appended}
+use Rattle.text.specs.Text.{greatest, bytes, lastLine, putIn, Appended}
 use Rattle.text.specs.Puts.{sets-at, put-fits}
 use Rattle.rules.specs.Tables.{Tables}
-use Rattle.tape.specs.declared.Progress.{Progress}
-use Rattle.tape.specs.Lines.{Fed, fed, stopLine, endLine, lastOf, opening, callLines, linesOf}
-use Rattle.tape.specs.Turns.{most, capped, Ran, Passed}
+use Rattle.turns.specs.Faults.{noVersion, cutShort, stopLine}
+use Rattle.tape.specs.declared.Extent.{Extent}
+use Rattle.tape.specs.Lines.{Fed, fed, endLine, lastOf, version, firstOffset, opening, callLines, linesOf}
+use Rattle.tape.specs.Inner.{capped, Ran, LinesIn}
 use Rattle.tape.specs.Promises.{Written, Closed}
 use Rattle.tape.specs.Room.{sets-front}
 use Rattle.tape.proofs.Running.{capped-small, capped-below, capped-sum}
 
--- THE LAST LINE, spelled out in the code
-pub ends : (calls offset : ℕ) {before : List ℕ} {at len r : ℕ} {after : List ℕ} → Appended before at (lastLine (bytes "end") calls) len after → r ≡ capped at len → Closed before at (endLine true calls offset) r after
-unfolding endLine
-ends calls offset {at = at} p e = record { end = e ∙ ap (λ (m : ℕ). capped at m) (p .size); text = p .text }
+-- THE LAST LINE: a text that was appended, and where it ends
+closed : {out xs : List ℕ} {at len r : ℕ} {out′ : List ℕ} → Appended out at xs len out′ → r ≡ capped at len → Closed out at xs r out′
+closed {at = at} p e = record { end = e ∙ ap (λ (m : ℕ). capped at m) (p .size); text = p .text }
 
-pub cut-short : (calls offset : ℕ) {before : List ℕ} {at len r : ℕ} {after : List ℕ} → Appended before at (lastLine (bytes "stopped 32") offset) len after → r ≡ capped at len → Closed before at (endLine false calls offset) r after
-unfolding endLine stopLine decimal digits widthOf widthIn
-cut-short calls offset {at = at} p e = record { end = e ∙ ap (λ (m : ℕ). capped at m) (p .size); text = p .text }
+pub ends : (calls offset : ℕ) {out : List ℕ} {at len r : ℕ} {out′ : List ℕ} → Appended out at (lastLine (bytes "end") calls) len out′
+    → r ≡ capped at len → Closed out at (endLine true calls offset) r out′
+unfolding endLine
+ends calls offset p e = closed p e
+
+pub cut-short : (calls offset : ℕ) {out : List ℕ} {at len r : ℕ} {out′ : List ℕ} → Appended out at (stopLine cutShort offset) len out′
+    → r ≡ capped at len → Closed out at (endLine false calls offset) r out′
+unfolding endLine
+cut-short calls offset p e = closed p e
 
 -- THE CALLS
-stop-lines : (part : List ℕ) → fed (length part) opening part .stopped ≡ true → callLines part ≡ fed (length part) opening part .text
-unfolding callLines lastOf
-stop-lines part e = rw e (append-nil (fed (length part) opening part .text))
+abbrev ran : List ℕ → Fed
+ran part = fed (length part) opening part
 
-end-lines : (part : List ℕ) → fed (length part) opening part .stopped ≡ false
-    → callLines part ≡ fed (length part) opening part .text
-    ++ endLine (eqb (length (fed (length part) opening part .left)) 0) (fed (length part) opening part .kept .calls) (fed (length part) opening part .kept .offset)
+stop-lines : (part : List ℕ) → ran part .stopped ≡ true → callLines part ≡ ran part .text
+unfolding callLines lastOf
+stop-lines part e = rw e (append-nil (ran part .text))
+
+end-lines : (part : List ℕ) → ran part .stopped ≡ false
+    → callLines part ≡ ran part .text ++ endLine (eqb (length (ran part .left)) 0) (ran part .state .calls) (ran part .state .offset)
 unfolding callLines lastOf
 end-lines part e = rw e
 
@@ -46,20 +54,21 @@ all-read u l h = go (eqb u (length l)) refl
     go true e = sym (eq-eqb (length (drop u l)) 0 (omega (arith, length-drop u l, eqb-true u (length l) e)))
     go false e = sym (ne-eqb (length (drop u l)) 0 (λ z. eqb-false u (length l) e (omega (arith, length-drop u l))))
 
-module _ (part out₀ : List ℕ) (r : Progress) (t : Tables) (buffer : List ℕ) (short : length out₀ < most)
-    (d : Ran (fed (length part) opening part) part 1 0 out₀ r t buffer) where
-  pub calls-stopped : r .stopped ≡ true → Passed (callLines part) out₀ (r .end) buffer
+module _ (part out₀ : List ℕ) (r : Extent) (t : Tables) (buffer : List ℕ) (short : length out₀ < greatest)
+    (d : Ran (ran part) part firstOffset 0 out₀ r t buffer) where
+  pub calls-stopped : r .stopped ≡ true → LinesIn (callLines part) out₀ (r .end) buffer
   calls-stopped e =
-      let k : callLines part ≡ fed (length part) opening part .text = stop-lines part (sym (d .stopped) ∙ e) in
+      let k : callLines part ≡ ran part .text = stop-lines part (sym (d .stopped) ∙ e) in
       rw k (record { end = d .end; text = λ i. d .text (omega arith) })
 
   pub calls-end : (q : ℕ) (out : List ℕ) → r .stopped ≡ false → length buffer ≡ length out₀
-      → Closed buffer (r .end) (endLine (eqb (r .used) (length part)) (r .calls) (1 + r .used)) q out → Passed (callLines part) out₀ q out
+      → Closed buffer (r .end) (endLine (eqb (r .used) (length part)) (r .calls) (firstOffset + r .used)) q out → LinesIn (callLines part) out₀ q out
   calls-end q out e same c =
-      let f : Fed = fed (length part) opening part in
-      let last : List ℕ = endLine (eqb (length (f .left)) 0) (f .kept .calls) (f .kept .offset) in
+      let f : Fed = ran part in
+      let last : List ℕ = endLine (eqb (length (f .left)) 0) (f .state .calls) (f .state .offset) in
       let k : callLines part ≡ f .text ++ last = end-lines part (sym (d .stopped) ∙ e) in
-      let x : endLine (eqb (r .used) (length part)) (r .calls) (1 + r .used) ≡ last = rw (all-read (r .used) part (d .used), d .rest, d .calls, d .at) in
+      let x : endLine (eqb (r .used) (length part)) (r .calls) (firstOffset + r .used) ≡ last =
+      rw (all-read (r .used) part (d .used), d .rest, d .calls, d .at) in
       let a : length (f .text ++ last) ≡ length (f .text) + length last = length-append (f .text) last in
       rw k
       (record {
@@ -74,26 +83,26 @@ module _ (part out₀ : List ℕ) (r : Progress) (t : Tables) (buffer : List ℕ
       })
 
 -- THE VERSION BYTE
-pub lines-one : (t : List ℕ) → getD t 0 0 ≡ 1 → linesOf t ≡ callLines (drop 1 t)
+pub lines-one : (t : List ℕ) → getD t 0 0 ≡ version → linesOf t ≡ callLines (drop firstOffset t)
 unfolding linesOf
-lines-one t e = rw (eq-eqb (getD t 0 0) 1 e)
+lines-one t e = rw (eq-eqb (getD t 0 0) version e)
 
-lines-not : (t : List ℕ) → (getD t 0 0 ≡ 1 → ⊥) → linesOf t ≡ stopLine 31 0
+lines-not : (t : List ℕ) → (getD t 0 0 ≡ version → ⊥) → linesOf t ≡ stopLine noVersion 0
 unfolding linesOf
-lines-not t e = rw (ne-eqb (getD t 0 0) 1 e)
+lines-not t e = rw (ne-eqb (getD t 0 0) version e)
 
-pub no-byte : (t : List ℕ) → length t ≤ 0 → getD t 0 0 ≡ 1 → ⊥
+pub no-byte : (t : List ℕ) → length t ≤ 0 → getD t 0 0 ≡ version → ⊥
 no-byte [] h e = omega arith
 no-byte (x ∷ t) h e = omega arith
 
-pub pass-bad : (t buffer : List ℕ) (n : ℕ) (out : List ℕ) → (getD t 0 0 ≡ 1 → ⊥) → n ≤ most → Appended buffer 0 (lastLine (bytes "stopped 31") 0) n out → Passed (linesOf t) buffer n out
-unfolding stopLine decimal digits widthOf widthIn
-pass-bad t buffer n out bad small p =
-    let line : List ℕ = lastLine (bytes "stopped 31") 0 in
+pub lines-bad : (t out : List ℕ) (n : ℕ) (out′ : List ℕ) → (getD t 0 0 ≡ version → ⊥) → n ≤ greatest
+    → Appended out 0 (stopLine noVersion 0) n out′ → LinesIn (linesOf t) out n out′
+lines-bad t out n out′ bad small p =
+    let line : List ℕ = stopLine noVersion 0 in
     rw (lines-not t bad)
     (record {
       end = p .size ∙ sym (capped-small 0 (length line) (omega (arith, p .size)) ∙ zero-add (length line));
-      text = λ i. p .text ∙ sym (put-fits buffer 0 line (omega arith));
+      text = λ i. p .text ∙ sym (put-fits out 0 line (omega arith));
     })
 
 -- THE LINES IN A BUFFER
@@ -101,7 +110,7 @@ pub nothing-of : (l : List ℕ) → length l ≤ 0 → l ≡ []
 nothing-of [] h = refl
 nothing-of (x ∷ l) h = absurd (omega arith)
 
-pub run-fits : (t buffer : List ℕ) (n : ℕ) (out : List ℕ) → n ≡ capped 0 (length (linesOf t)) → n ≤ length buffer → length buffer < most
+pub run-fits : (t buffer : List ℕ) (n : ℕ) (out : List ℕ) → n ≡ capped 0 (length (linesOf t)) → n ≤ length buffer → length buffer < greatest
     → (length (linesOf t) ≤ length buffer → out ≡ sets buffer 0 (linesOf t)) → Written t buffer n out
 run-fits t buffer n out e h s f =
     let k : 0 + length (linesOf t) ≡ n = capped-below 0 (length (linesOf t)) n (sym e) (omega arith) in
@@ -111,8 +120,9 @@ run-fits t buffer n out e h s f =
       buffer = rw (le-leb (length (linesOf t)) (length buffer) i) (f i ∙ sets-front (linesOf t) buffer i);
     }
 
-pub run-not : (t buffer : List ℕ) (n : ℕ) → n ≡ capped 0 (length (linesOf t)) → length buffer < n → length buffer < most → Written t buffer most buffer
-run-not t buffer n e h s = record { count = rw (lt-leb (length (linesOf t)) (length buffer) over); buffer = rw (lt-leb (length (linesOf t)) (length buffer) over) }
+pub run-not : (t buffer : List ℕ) (n : ℕ) → n ≡ capped 0 (length (linesOf t)) → length buffer < n → length buffer < greatest
+    → Written t buffer greatest buffer
+run-not t buffer n e h s = let no-room = lt-leb (length (linesOf t)) (length buffer) over in record { count = rw no-room; buffer = rw no-room }
   where
     small : length (linesOf t) ≤ length buffer → ⊥
     small l = let z = capped-small 0 (length (linesOf t)) (omega arith) in omega arith

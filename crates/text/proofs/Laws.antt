@@ -7,7 +7,7 @@ use mathlib.Core.Path.{_≡_, refl, ap, sym, _∙_}
 use mathlib.Core.List.{List, [], _∷_, _++_}
 use lib.ListN.{length, set, drop, getD, drop-of-length-le}
 use lib.Seq.{sets, set-comm, drop-cons}
-use Rattle.text.specs.Text.{widthIn, widthOf, digits, decimal, line, lastLine}
+use Rattle.text.specs.Text.{mostDigits, widthIn, widthOf, digits, decimal, line, lastLine}
 use Rattle.text.specs.Puts.{sets-append, sets-at, length-digits, width-next}
 
 -- a store past a run may go first
@@ -26,18 +26,19 @@ digits-last l at i n =
     ∙ sym (sets-append l at (digits i (n / 10)) ((48 + n % 10) ∷ []))
 
 -- one byte of a copy
-pub sets-drop : (l : List ℕ) (at i : ℕ) (s : List ℕ) → i < length s → sets (set l (at + i) (getD s i 0)) (at + (i + 1)) (drop (i + 1) s) ≡ sets l (at + i) (drop i s)
+pub sets-drop : (l : List ℕ) (at i : ℕ) (s : List ℕ) → i < length s
+    → sets (set l (at + i) (getD s i 0)) (at + (i + 1)) (drop (i + 1) s) ≡ sets l (at + i) (drop i s)
 sets-drop l at i s h = rw (add-one, drop-cons s i 0, add-suc)
 
 -- the count of digits, as the loop finds it
-pub width-end : (k n : ℕ) → 20 ≤ k → widthIn (20 - k) n ≡ 1
+pub width-end : (k n : ℕ) → mostDigits ≤ k → widthIn (mostDigits - k) n ≡ 1
 unfolding widthIn
 width-end k n h = rw (sub-eq-zero-of-le h)
 
-pub width-more : (k n : ℕ) → k < 20 → 10 ≤ n → widthIn (20 - k) n ≡ 1 + widthIn (20 - (k + 1)) (n / 10)
+pub width-more : (k n : ℕ) → k < mostDigits → 10 ≤ n → widthIn (mostDigits - k) n ≡ 1 + widthIn (mostDigits - (k + 1)) (n / 10)
 width-more k n h g =
-    let e : 20 - k ≡ suc (20 - (k + 1)) = omega arith in
-    rw e (omega (arith, width-next (20 - (k + 1)) n g))
+    let e : mostDigits - k ≡ suc (mostDigits - (k + 1)) = omega arith in
+    rw e (omega (arith, width-next (mostDigits - (k + 1)) n g))
 
 pub digits-back : (l : List ℕ) (at i n : ℕ) → 0 < i → sets (set l (at + (i - 1)) (48 + n % 10)) at (digits (i - 1) (n / 10)) ≡ sets l at (digits i n)
 digits-back l at zero n h = absurd (omega arith)
@@ -59,10 +60,12 @@ pub last-put : (l : List ℕ) (at b x : ℕ) (w : List ℕ) → b ≡ widthOf x
     → set (sets (set (sets l at w) (at + length w) 32) (at + length w + 1) (digits b x)) (at + length w + 1 + b) 10 ≡ sets l at (lastLine w x)
 unfolding lastLine decimal
 last-put l at b x w e =
+    let p : ℕ = at + length w in
+    let number : List ℕ = digits (widthOf x) x in
     rw e (
-    sets-at (set (sets l at w) (at + length w) 32) (at + length w + 1) (at + length w + 1 + widthOf x) (digits (widthOf x) x) (10 ∷ []) (omega (arith, length-digits (widthOf x) x))
-    ∙ sets-one (sets l at w) (at + length w) (at + length w + 1) 32 (digits (widthOf x) x ++ 10 ∷ []) refl
-    ∙ sets-at l at (at + length w) w (32 ∷ (digits (widthOf x) x ++ 10 ∷ [])) refl)
+    sets-at (set (sets l at w) p 32) (p + 1) (p + 1 + widthOf x) number (10 ∷ []) (omega (arith, length-digits (widthOf x) x))
+    ∙ sets-one (sets l at w) p (p + 1) 32 (number ++ 10 ∷ []) refl
+    ∙ sets-at l at p w (32 ∷ (number ++ 10 ∷ [])) refl)
 
 -- what `put_line` leaves
 pub line-put : (l : List ℕ) (at a n x : ℕ) (w : List ℕ) → a ≡ widthOf n

@@ -1,6 +1,6 @@
 -- Numbers in decimal, and lines, computed.
 use mathlib.Core.Path.{_≡_, refl}
-use Rattle.text.specs.Text.{widthIn, widthOf, digits, decimal, bytes, lastLine, line}
+use Rattle.text.specs.Text.{greatest, widthIn, widthOf, digits, decimal, bytes, lastLine, line}
 
 pub zero-is : decimal 0 ≡ bytes "0"
 unfolding decimal digits widthOf widthIn
@@ -10,7 +10,7 @@ pub ten-is : decimal 10 ≡ bytes "10"
 unfolding decimal digits widthOf widthIn
 ten-is = refl
 
-pub greatest-is : decimal 18446744073709551615 ≡ bytes "18446744073709551615"
+pub greatest-is : decimal greatest ≡ bytes "18446744073709551615"
 unfolding decimal digits widthOf widthIn
 greatest-is = refl
 

@@ -6,7 +6,7 @@ use native.Mathlib.Nat.{zero-add, add-zero, suc-add, add-suc, mul-assoc, le-tran
 use mathlib.Core.Path.{_≡_, refl, ap, sym, _∙_}
 use mathlib.Core.List.{List, [], _∷_, _++_, append-assoc, append-nil}
 use lib.ListN.{length, getD, List·getD-append}
-use Rattle.text.specs.Text.{widthIn, widthOf, digits, decimal}
+use Rattle.text.specs.Text.{greatest, widthIn, widthOf, digits, decimal}
 use Rattle.text.specs.Puts.{length-digits, length-decimal, width-done, width-next}
 
 -- the number that digits say, the most significant first, behind a number so far
@@ -68,7 +68,7 @@ shows (suc f) n h = go (shows f (n / 10) (omega (arith, pow-succ' 10 (suc f)))) 
     go s (yes l) = rw (width-done (suc f) n l) (shows-one n l)
     go s (no l) = rw (width-next f n (omega arith)) (shows-more (widthIn f (n / 10)) n (omega arith) s)
 
-module _ (n : ℕ) (h : n < 2 ^ 64) where
+module _ (n : ℕ) (h : n ≤ greatest) where
   shown : Shows (widthOf n) n
   unfolding widthOf
   shown = shows 19 n (omega arith)
@@ -124,8 +124,8 @@ least-read so [] = omega arith
 least-read so (b ∷ bs) =
     le-trans (rw (pow-succ', ← mul-assoc) (mul-le-mul-right (10 ^ length bs) (le-add-right (so * 10) (b - 48)))) (least-read (so * 10 + (b - 48)) bs)
 
--- a text that says less than 2 ^ 64 has as many digits as the number
-width-says : (t : List ℕ) → IsDigits t → 1 ≤ length t → NoLeadingZero t → readBack t < 2 ^ 64 → widthOf (readBack t) ≡ length t
+-- a text that says no more than the greatest number has as many digits as the number
+width-says : (t : List ℕ) → IsDigits t → 1 ≤ length t → NoLeadingZero t → readBack t ≤ greatest → widthOf (readBack t) ≡ length t
 unfolding readOn widthOf
 width-says [] d f z h = absurd (omega arith)
 width-says (b ∷ []) (digit lo hi d) f z h = width-done 19 (0 + (b - 48)) (omega arith)
@@ -148,7 +148,7 @@ width-says (b ∷ c ∷ bs) (digit lo hi d) f z h =
         let most : 10 ^ 20 ≤ 10 ^ length (c ∷ bs) = pow-le-pow-right {n = 10} (omega arith) {i = 20} long in
         absurd (omega (arith, least-read (0 + (b - 48)) (c ∷ bs), mul-le-mul-right (10 ^ length (c ∷ bs)) p))
 
-pub only-text : (n : ℕ) → n < 2 ^ 64 → (t : List ℕ) → IsDigits t → 1 ≤ length t → NoLeadingZero t → readBack t ≡ n → t ≡ decimal n
+pub only-text : (n : ℕ) → n ≤ greatest → (t : List ℕ) → IsDigits t → 1 ≤ length t → NoLeadingZero t → readBack t ≡ n → t ≡ decimal n
 unfolding decimal digits
 only-text n h t d f z e =
     let wide : widthOf n ≡ length t = ap widthOf (sym e) ∙ width-says t d f z (omega arith) in

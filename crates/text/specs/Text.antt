@@ -1,5 +1,5 @@
 -- A number in decimal, a tape's lines, and a run of bytes put at a place of a buffer.
-use Prim.Native.Nat.{ℕ, zero, suc, _+_, _/_, _%_}
+use Prim.Native.Nat.{ℕ, zero, suc, _+_, _-_, _/_, _%_, _^_}
 use Prim.Native.String as S
 use Prim.Native.String.{String}
 use Prim.Native.Char.{code}
@@ -10,14 +10,25 @@ use lib.Dec.{ltb, leb}
 use lib.ListN.{length}
 use lib.Seq.{sets}
 
+-- the greatest number of 64 bits
+abbrev pub greatest : ℕ
+greatest = 2 ^ 64 - 1
+
+-- how many letters of a word are written, at most
+abbrev pub mostLetters : ℕ
+mostLetters = 10
+
 -- how many decimal digits n has, where that is at most f + 1
 unfoldable pub widthIn : ℕ → ℕ → ℕ
 widthIn zero n = 1
 widthIn (suc f) n = cond (ltb n 10) 1 (1 + widthIn f (n / 10))
 
--- how many a 64-bit number has: at most 20
+-- how many a 64-bit number has, at most
+abbrev pub mostDigits : ℕ
+mostDigits = 20
+
 unfoldable pub widthOf : ℕ → ℕ
-widthOf n = widthIn 19 n
+widthOf n = widthIn (mostDigits - 1) n
 
 -- the last k decimal digits of n, in ASCII
 unfoldable pub digits : ℕ → ℕ → List ℕ
@@ -45,6 +56,6 @@ unfoldable pub putIn : List ℕ → ℕ → List ℕ → List ℕ
 putIn l at xs = cond (leb (at + length xs) (length l)) (sets l at xs) l
 
 -- what appending a text to a buffer answers and leaves
-pub record Appended (before : List ℕ) (at : ℕ) (xs : List ℕ) (r : ℕ) (after : List ℕ) : Type 0 where
+pub record Appended (out : List ℕ) (at : ℕ) (xs : List ℕ) (r : ℕ) (out′ : List ℕ) : Type 0 where
   pub size : r ≡ length xs
-  pub text : after ≡ putIn before at xs
+  pub text : out′ ≡ putIn out at xs

@@ -3,8 +3,15 @@ ghost use mathlib.Core.Path.{_≡_};
 ghost use Prim.Native.Nat.{_+_, _≤_};
 ghost use lib.ListN.{length, take};
 ghost use lib.Seq.{sets};
-ghost use Rattle.text.specs.Text.{widthOf, digits, line, lastLine, Appended};
+ghost use Rattle.text.specs.Text.{mostLetters, digits, line, lastLine, Appended};
 ghost use Rattle.text.specs.Promises.{WidthIs};
+ghost use Rattle.text.specs.Inner.{LastFits, LineFits, Letters};
+
+// How many letters of a word are written.
+pub const MOST_LETTERS: usize = 10;
+
+// How many decimal digits a 64-bit number has at most.
+const MOST_DIGITS: usize = 20;
 
 // How many decimal digits n has.
 pub fn width(n: u64) -> usize
@@ -12,7 +19,7 @@ pub fn width(n: u64) -> usize
 {
     let mut k = 1;
     let mut rest = n;
-    while k < 20 {
+    while k < MOST_DIGITS {
         if rest < 10 {
             return k;
         }
@@ -50,7 +57,7 @@ fn put_bytes(out: &mut [u8], at: usize, s: &[u8])
 
 // Puts a word, a number of b digits and a line's end.
 fn put_last(out: &mut [u8], at: usize, s: &[u8], x: u64, b: usize)
-    requires { ⌜ (b ≡ widthOf x) × (at + length (now s) + b + 2 ≤ length (now out)) ⌝ }
+    requires { ⌜ LastFits x b (at + length (now s)) (length (now out)) ⌝ }
     ensures { λ _. ⌜ now (out .exit) ≡ sets (now (out .entry)) at (lastLine (now (s .entry)) x) ⌝ }
 {
     put_bytes(out, at, s);
@@ -63,7 +70,7 @@ fn put_last(out: &mut [u8], at: usize, s: &[u8], x: u64, b: usize)
 
 // Puts a number of a digits, and then the same.
 fn put_line(out: &mut [u8], at: usize, n: u64, a: usize, s: &[u8], x: u64, b: usize)
-    requires { ⌜ (a ≡ widthOf n) × (b ≡ widthOf x) × (at + a + length (now s) + b + 3 ≤ length (now out)) ⌝ }
+    requires { ⌜ LineFits n a x b (at + a + length (now s)) (length (now out)) ⌝ }
     ensures { λ _. ⌜ now (out .exit) ≡ sets (now (out .entry)) at (line n (now (s .entry)) x) ⌝ }
 {
     put_digits(out, at, n, a);
@@ -74,7 +81,7 @@ fn put_line(out: &mut [u8], at: usize, n: u64, a: usize, s: &[u8], x: u64, b: us
 
 // Appends a numbered line at `at` where it fits whole, else changes nothing. The result is the line's length either way.
 fn append_line(out: &mut [u8], at: usize, n: u64, s: &[u8], x: u64) -> usize
-    requires { ⌜ length (now s) ≤ 10 ⌝ }
+    requires { ⌜ length (now s) ≤ mostLetters ⌝ }
     ensures { λ r. ⌜ Appended (now (out .entry)) at (line n (now (s .entry)) x) r (now (out .exit)) ⌝ }
 {
     let a = width(n);
@@ -91,7 +98,7 @@ fn append_line(out: &mut [u8], at: usize, n: u64, s: &[u8], x: u64) -> usize
 
 // The same for a line of a word and a number.
 fn append_last(out: &mut [u8], at: usize, s: &[u8], x: u64) -> usize
-    requires { ⌜ length (now s) ≤ 10 ⌝ }
+    requires { ⌜ length (now s) ≤ mostLetters ⌝ }
     ensures { λ r. ⌜ Appended (now (out .entry)) at (lastLine (now (s .entry)) x) r (now (out .exit)) ⌝ }
 {
     let b = width(x);
@@ -105,28 +112,28 @@ fn append_last(out: &mut [u8], at: usize, s: &[u8], x: u64) -> usize
     len
 }
 
-// How many letters of a word are written: at most ten.
-fn letters_of(word: &[u8]) -> usize
-    ensures { λ r. ⌜ (r ≤ 10) × (r ≤ length (now (word .entry))) × (take r (now (word .entry)) ≡ take 10 (now (word .entry))) ⌝ }
+// How many letters are written: at most ten.
+fn letters_used(letters: &[u8]) -> usize
+    ensures { λ r. ⌜ Letters (now (letters .entry)) r ⌝ }
 {
-    if word.len() < 10 {
-        return word.len();
+    if letters.len() < MOST_LETTERS {
+        return letters.len();
     }
-    10
+    MOST_LETTERS
 }
 
-// A call's line: its number, a word and a number.
-pub fn numbered(out: &mut [u8], at: usize, n: u64, word: &[u8], x: u64) -> usize
-    ensures { λ r. ⌜ Appended (now (out .entry)) at (line n (take 10 (now (word .entry))) x) r (now (out .exit)) ⌝ }
+// A call's line: its number, a word's letters and a number.
+pub fn numbered(out: &mut [u8], at: usize, n: u64, letters: &[u8], x: u64) -> usize
+    ensures { λ r. ⌜ Appended (now (out .entry)) at (line n (take mostLetters (now (letters .entry))) x) r (now (out .exit)) ⌝ }
 {
-    let len = letters_of(word);
-    append_line(out, at, n, &word[..len], x)
+    let len = letters_used(letters);
+    append_line(out, at, n, &letters[..len], x)
 }
 
-// A tape's last line: a word and a number.
-pub fn last(out: &mut [u8], at: usize, word: &[u8], x: u64) -> usize
-    ensures { λ r. ⌜ Appended (now (out .entry)) at (lastLine (take 10 (now (word .entry))) x) r (now (out .exit)) ⌝ }
+// A tape's last line: a word's letters and a number.
+pub fn last(out: &mut [u8], at: usize, letters: &[u8], x: u64) -> usize
+    ensures { λ r. ⌜ Appended (now (out .entry)) at (lastLine (take mostLetters (now (letters .entry))) x) r (now (out .exit)) ⌝ }
 {
-    let len = letters_of(word);
-    append_last(out, at, &word[..len], x)
+    let len = letters_used(letters);
+    append_last(out, at, &letters[..len], x)
 }

@@ -3,153 +3,101 @@ use borrow.Author.Needs.{needs}
 use Rattle.answers.proofs.spell.Statement.{statement}
 use Rattle.answers.proofs.spell.Tie as tie
 
-enum-told : tie.Need-enum-told
-enum-told c = search needs
-
-word-of-requires : tie.Need-word-of-requires
-word-of-requires c κs = search needs
-
-enum-told-2 : tie.Need-enum-told-2
-enum-told-2 c = search needs
-
-word-of-requires-2 : tie.Need-word-of-requires-2
-word-of-requires-2 c κs = search needs
-
-enum-told-3 : tie.Need-enum-told-3
-enum-told-3 c = search needs
-
-word-of-requires-3 : tie.Need-word-of-requires-3
-word-of-requires-3 c κs = search needs
-
-enum-told-4 : tie.Need-enum-told-4
-enum-told-4 c = search needs
-
-word-of-requires-4 : tie.Need-word-of-requires-4
-word-of-requires-4 c κs = search needs
-
-enum-told-5 : tie.Need-enum-told-5
-enum-told-5 c = search needs
-
-word-of-requires-5 : tie.Need-word-of-requires-5
-word-of-requires-5 c κs = search needs
-
-enum-told-6 : tie.Need-enum-told-6
-enum-told-6 c = search needs
-
-word-of-requires-6 : tie.Need-word-of-requires-6
-word-of-requires-6 c κs = search needs
-
-enum-told-7 : tie.Need-enum-told-7
-enum-told-7 c = search needs
-
-word-of-requires-7 : tie.Need-word-of-requires-7
-word-of-requires-7 c κs = search needs
-
-enum-told-8 : tie.Need-enum-told-8
-enum-told-8 c = search needs
-
-word-of-requires-8 : tie.Need-word-of-requires-8
-word-of-requires-8 c κs = search needs
-
-enum-told-9 : tie.Need-enum-told-9
-enum-told-9 c = search needs
-
-word-of-requires-9 : tie.Need-word-of-requires-9
-word-of-requires-9 c κs = search needs
-
-enum-told-10 : tie.Need-enum-told-10
-enum-told-10 c = search needs
-
-word-of-requires-10 : tie.Need-word-of-requires-10
-word-of-requires-10 c κs = search needs
-
-enum-told-11 : tie.Need-enum-told-11
-enum-told-11 c = search needs
-
-word-of-requires-11 : tie.Need-word-of-requires-11
-word-of-requires-11 c κs = search needs
-
-enum-told-12 : tie.Need-enum-told-12
-enum-told-12 c = search needs
-
-word-of-requires-12 : tie.Need-word-of-requires-12
-word-of-requires-12 c κs = search needs
-
-enum-told-13 : tie.Need-enum-told-13
-enum-told-13 c = search needs
-
-word-of-requires-13 : tie.Need-word-of-requires-13
-word-of-requires-13 c κs = search needs
-
 returns : tie.Need-returns
-returns c = rw (c .before .before .before .enum-told .given .1) (c .word-of .ensures)
+returns c =
+    let at-answer : tie.After-enum-told = search in
+    rw (at-answer .enum-told .given .1) (c .padded .ensures)
 
 returns-2 : tie.Need-returns-2
-returns-2 c = rw (c .before .before .before .enum-told2 .given .1) (c .word-of2 .ensures)
+returns-2 c =
+    let at-answer : tie.After-enum-told2 = search in
+    rw (at-answer .enum-told2 .given .1) (c .padded2 .ensures)
 
 returns-3 : tie.Need-returns-3
-returns-3 c = rw (c .before .before .before .enum-told3 .given .1) (c .word-of3 .ensures)
+returns-3 c =
+    let at-answer : tie.After-enum-told3 = search in
+    rw (at-answer .enum-told3 .given .1) (c .padded3 .ensures)
 
 returns-4 : tie.Need-returns-4
-returns-4 c = rw (c .before .before .before .enum-told4 .given .1) (c .word-of4 .ensures)
+returns-4 c =
+    let at-answer : tie.After-enum-told4 = search in
+    rw (at-answer .enum-told4 .given .1) (c .padded4 .ensures)
 
 returns-5 : tie.Need-returns-5
-returns-5 c = rw (c .before .before .before .enum-told5 .given .1) (c .word-of5 .ensures)
+returns-5 c =
+    let at-answer : tie.After-enum-told5 = search in
+    rw (at-answer .enum-told5 .given .1) (c .padded5 .ensures)
 
 returns-6 : tie.Need-returns-6
-returns-6 c = rw (c .before .before .before .enum-told6 .given .1) (c .word-of6 .ensures)
+returns-6 c =
+    let at-answer : tie.After-enum-told6 = search in
+    rw (at-answer .enum-told6 .given .1) (c .padded6 .ensures)
 
 returns-7 : tie.Need-returns-7
-returns-7 c = rw (c .before .before .before .enum-told7 .given .1) (c .word-of7 .ensures)
+returns-7 c =
+    let at-answer : tie.After-enum-told7 = search in
+    rw (at-answer .enum-told7 .given .1) (c .padded7 .ensures)
 
 returns-8 : tie.Need-returns-8
-returns-8 c = rw (c .before .before .before .enum-told8 .given .1) (c .word-of8 .ensures)
+returns-8 c =
+    let at-answer : tie.After-enum-told8 = search in
+    rw (at-answer .enum-told8 .given .1) (c .padded8 .ensures)
 
 returns-9 : tie.Need-returns-9
-returns-9 c = rw (c .before .before .before .enum-told9 .given .1) (c .word-of9 .ensures)
+returns-9 c =
+    let at-answer : tie.After-enum-told9 = search in
+    rw (at-answer .enum-told9 .given .1) (c .padded9 .ensures)
 
 returns-10 : tie.Need-returns-10
-returns-10 c = rw (c .before .before .before .enum-told10 .given .1) (c .word-of10 .ensures)
+returns-10 c =
+    let at-answer : tie.After-enum-told10 = search in
+    rw (at-answer .enum-told10 .given .1) (c .padded10 .ensures)
 
 returns-11 : tie.Need-returns-11
-returns-11 c = rw (c .before .before .before .enum-told11 .given .1) (c .word-of11 .ensures)
+returns-11 c =
+    let at-answer : tie.After-enum-told11 = search in
+    rw (at-answer .enum-told11 .given .1) (c .padded11 .ensures)
 
 returns-12 : tie.Need-returns-12
-returns-12 c = rw (c .before .before .before .enum-told12 .given .1) (c .word-of12 .ensures)
+returns-12 c =
+    let at-answer : tie.After-enum-told12 = search in
+    rw (at-answer .enum-told12 .given .1) (c .padded12 .ensures)
 
 returns-13 : tie.Need-returns-13
-returns-13 c = rw (c .before .before .before .enum-told13 .given .1) (c .word-of13 .ensures)
+returns-13 c =
+    let at-answer : tie.After-enum-told13 = search in
+    rw (at-answer .enum-told13 .given .1) (c .padded13 .ensures)
 
 pub spell-spec : {M : Type 1} → statement M
 spell-spec =
     tie.close
     (tie.spec
-    enum-told
-    word-of-requires
-    enum-told-2
-    word-of-requires-2
-    enum-told-3
-    word-of-requires-3
-    enum-told-4
-    word-of-requires-4
-    enum-told-5
-    word-of-requires-5
-    enum-told-6
-    word-of-requires-6
-    enum-told-7
-    word-of-requires-7
-    enum-told-8
-    word-of-requires-8
-    enum-told-9
-    word-of-requires-9
-    enum-told-10
-    word-of-requires-10
-    enum-told-11
-    word-of-requires-11
-    enum-told-12
-    word-of-requires-12
-    enum-told-13
-    word-of-requires-13
+    (λ c. search needs)
+    (λ c κs. search needs)
+    (λ c. search needs)
+    (λ c κs. search needs)
+    (λ c. search needs)
+    (λ c κs. search needs)
+    (λ c. search needs)
+    (λ c κs. search needs)
+    (λ c. search needs)
+    (λ c κs. search needs)
+    (λ c. search needs)
+    (λ c κs. search needs)
+    (λ c. search needs)
+    (λ c κs. search needs)
+    (λ c. search needs)
+    (λ c κs. search needs)
+    (λ c. search needs)
+    (λ c κs. search needs)
+    (λ c. search needs)
+    (λ c κs. search needs)
+    (λ c. search needs)
+    (λ c κs. search needs)
+    (λ c. search needs)
+    (λ c κs. search needs)
+    (λ c. search needs)
+    (λ c κs. search needs)
     returns
     returns-2
     returns-3

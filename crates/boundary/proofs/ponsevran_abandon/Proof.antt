@@ -4,31 +4,19 @@ use Rattle.boundary.specs.Given.{given-of}
 use Rattle.boundary.proofs.ponsevran_abandon.Statement.{statement}
 use Rattle.boundary.proofs.ponsevran_abandon.Tie as tie
 
-abandon-requires : tie.Need-abandon-requires
-abandon-requires c κs = search needs
-
-number-of-requires : tie.Need-number-of-requires
-number-of-requires c κs = search needs
-
-kind-of-requires : tie.Need-kind-of-requires
-kind-of-requires c κs = search needs
-
-same-length : tie.Need-same-length
-same-length c = search needs
-
-same-length-2 : tie.Need-same-length-2
-same-length-2 c = search needs
-
 returns : tie.Need-returns
-returns c = given-of (c .before .before .before .before .before .before .abandon .ensures) (c .kind-of .ensures) (c .before .number-of .ensures)
+returns c =
+    let at-number : tie.After-number-of = c .before in
+    let at-answer : tie.After-abandon = search (at-number) in
+    given-of (at-answer .abandon .ensures) (c .kind-of .ensures) (at-number .number-of .ensures)
 
 pub ponsevran-abandon-spec : {M : Type 1} → statement M
 ponsevran-abandon-spec =
     tie.close
     (tie.spec
-    abandon-requires
-    number-of-requires
-    kind-of-requires
-    same-length
-    same-length-2
+    (λ c κs. search needs)
+    (λ c κs. search needs)
+    (λ c κs. search needs)
+    (λ c. search needs)
+    (λ c. search needs)
     returns)

@@ -4,35 +4,20 @@ use Rattle.boundary.specs.Given.{given-of}
 use Rattle.boundary.proofs.ponsevran_advance.Statement.{statement}
 use Rattle.boundary.proofs.ponsevran_advance.Tie as tie
 
-advance-requires : tie.Need-advance-requires
-advance-requires c κs = search needs
-
-number-of-requires : tie.Need-number-of-requires
-number-of-requires c κs = search needs
-
-kind-of-requires : tie.Need-kind-of-requires
-kind-of-requires c κs = search needs
-
-same-length : tie.Need-same-length
-same-length c = search needs
-
-same-length-2 : tie.Need-same-length-2
-same-length-2 c = search needs
-
-same-length-3 : tie.Need-same-length-3
-same-length-3 c = search needs
-
 returns : tie.Need-returns
-returns c = given-of (c .before .before .before .before .before .before .before .before .advance .ensures) (c .kind-of .ensures) (c .before .number-of .ensures)
+returns c =
+    let at-number : tie.After-number-of = c .before in
+    let at-answer : tie.After-advance = search (at-number) in
+    given-of (at-answer .advance .ensures) (c .kind-of .ensures) (at-number .number-of .ensures)
 
 pub ponsevran-advance-spec : {M : Type 1} → statement M
 ponsevran-advance-spec =
     tie.close
     (tie.spec
-    advance-requires
-    number-of-requires
-    kind-of-requires
-    same-length
-    same-length-2
-    same-length-3
+    (λ c κs. search needs)
+    (λ c κs. search needs)
+    (λ c κs. search needs)
+    (λ c. search needs)
+    (λ c. search needs)
+    (λ c. search needs)
     returns)

@@ -4,27 +4,18 @@ use Rattle.boundary.specs.Given.{given-of}
 use Rattle.boundary.proofs.ponsevran_read.Statement.{statement}
 use Rattle.boundary.proofs.ponsevran_read.Tie as tie
 
-read-requires : tie.Need-read-requires
-read-requires c κs = search needs
-
-number-of-requires : tie.Need-number-of-requires
-number-of-requires c κs = search needs
-
-kind-of-requires : tie.Need-kind-of-requires
-kind-of-requires c κs = search needs
-
-same-length : tie.Need-same-length
-same-length c = search needs
-
 returns : tie.Need-returns
-returns c = given-of (c .before .before .before .before .read .ensures) (c .kind-of .ensures) (c .before .number-of .ensures)
+returns c =
+    let at-number : tie.After-number-of = c .before in
+    let at-answer : tie.After-read = search (at-number) in
+    given-of (at-answer .read .ensures) (c .kind-of .ensures) (at-number .number-of .ensures)
 
 pub ponsevran-read-spec : {M : Type 1} → statement M
 ponsevran-read-spec =
     tie.close
     (tie.spec
-    read-requires
-    number-of-requires
-    kind-of-requires
-    same-length
+    (λ c κs. search needs)
+    (λ c κs. search needs)
+    (λ c κs. search needs)
+    (λ c. search needs)
     returns)

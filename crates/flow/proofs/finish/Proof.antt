@@ -1,7 +1,7 @@
 -- `flow::finish` meets its contract. Assumes nothing.
 use mathlib.Core.Path.{refl}
 use borrow.Author.Needs.{needs}
-use Rattle.flow.proofs.Standing.{ends-stopped, ends-begun, ends-unbegun}
+use Rattle.flow.proofs.Fronts.{ends-stopped, ends-begun, ends-unbegun}
 use Rattle.flow.proofs.finish.Statement.{statement}
 use Rattle.flow.proofs.finish.Tie as tie
 
@@ -17,10 +17,10 @@ returns-2 c =
 
 returns-3 : tie.Need-returns-3
 returns-3 c =
-    let at-line : tie.After-no-version = search in
+    let at-line : tie.After-stop = search in
     let at-unbegun : tie.Else2 = search (at-line) in
     let at-going : tie.Else1 = search (at-unbegun) in
-    ends-unbegun _ _ (at-going .if1 .left) (at-unbegun .if2 .left) (at-line .no-version .ensures)
+    ends-unbegun _ _ (at-going .if1 .left) (at-unbegun .if2 .left) (at-line .stop .ensures)
 
 pub finish-spec : {M : Type 1} → statement M
 finish-spec =

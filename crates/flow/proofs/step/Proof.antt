@@ -4,20 +4,23 @@ use mathlib.Core.Path.{_≡_, refl, ap, sym, _∙_}
 use mathlib.Core.Bool.{true, false, true≢false}
 use borrow.Author.Needs.{needs}
 use denote.Ref.{now}
+use Rattle.rules.specs.Tables.{Tables, tables}
 use Rattle.tape.specs.Room.{fit}
 use Rattle.flow.specs.declared.Flow.{Flow}
 use Rattle.flow.specs.Promises.{unready}
-use Rattle.flow.proofs.Standing.{fit-from, stays, goes-on, opens}
+use Rattle.flow.proofs.Fronts.{fit-from, stays, goes-on, opens}
 use Rattle.flow.proofs.step.Statement.{statement}
 use Rattle.flow.proofs.step.Tie as tie
 
 -- WHETHER THE PART IS UNFIT, as the code asks
 abbrev start : tie.After-is-unfit → tie.Start
-start c = c .before .before .before .before .before .before .before
+start c = search
 
-asked : (c : tie.After-is-unfit) → let a = start c .args in
-    c .is-unfit .result ≡ unready (a .f) (now (a .buf)) (a .to) (now (a .values)) (now (a .words)) (now (a .out))
-asked c = let at-tally : tie.After-tally = search in rw (at-tally .tally .ensures) at (c .is-unfit .ensures)
+abbrev found : tie.After-is-unfit → Tables
+found c = let a = start c .args in tables (now (a .values)) (now (a .words)) (now (a .seats))
+
+asked : (c : tie.After-is-unfit) → let a = start c .args in c .is-unfit .result ≡ unready (a .f) (now (a .buf)) (a .to) (found c) (now (a .out))
+asked c = let at-counts : tie.After-counts-of = search in rw (at-counts .counts-of .ensures) at (c .is-unfit .ensures)
 
 -- unfit
 returns : tie.Need-returns
@@ -30,7 +33,7 @@ returns c =
       short = λ e. absurd (true≢false (sym (ap (λ (x : Flow). x .stopped) (c .halted .ensures)) ∙ e));
     }
 
-ready : (c : tie.Else1) → let a = start (c .before) .args in unready (a .f) (now (a .buf)) (a .to) (now (a .values)) (now (a .words)) (now (a .out)) ≡ false
+ready : (c : tie.Else1) → let a = start (c .before) .args in unready (a .f) (now (a .buf)) (a .to) (found (c .before)) (now (a .out)) ≡ false
 ready c = sym (asked (c .before)) ∙ c .if1 .left
 
 -- stopped before
@@ -38,7 +41,7 @@ returns-2 : tie.Need-returns-2
 returns-2 c =
     let at-stopped : tie.Then2 = search in
     let at-ready : tie.Else1 = search (at-stopped) in
-    stays _ _ _ _ _ _ _ (ready at-ready) (at-stopped .if2 .taken) (c .halted2 .ensures)
+    stays _ _ _ _ _ (ready at-ready) (at-stopped .if2 .taken) (c .halted2 .ensures)
 
 -- begun
 take-calls-requires : tie.Need-take-calls-requires
@@ -52,7 +55,7 @@ returns-3 c =
     let at-begun : tie.Then3 = search (at-calls) in
     let at-going : tie.Else2 = search (at-begun) in
     let at-ready : tie.Else1 = search (at-going) in
-    goes-on _ _ _ _ _ _ _ (ready at-ready) (at-going .if2 .left) (at-begun .if3 .taken) (at-calls .take-calls .ensures)
+    goes-on _ _ _ _ _ (ready at-ready) (at-going .if2 .left) (at-begun .if3 .taken) (at-calls .take-calls .ensures)
 
 -- not begun
 open-tape-requires : tie.Need-open-tape-requires
@@ -64,7 +67,7 @@ returns-4 c =
     let at-unbegun : tie.Else3 = search (at-first) in
     let at-going : tie.Else2 = search (at-unbegun) in
     let at-ready : tie.Else1 = search (at-going) in
-    opens _ _ _ _ _ _ _ (ready at-ready) (at-going .if2 .left) (at-unbegun .if3 .left) (at-first .open-tape .ensures)
+    opens _ _ _ _ _ (ready at-ready) (at-going .if2 .left) (at-unbegun .if3 .left) (at-first .open-tape .ensures)
 
 pub step-spec : {M : Type 1} → statement M
 step-spec =

@@ -5,12 +5,6 @@ use borrow.Author.Needs.{needs}
 use Rattle.frames.proofs.decode.Statement.{statement}
 use Rattle.frames.proofs.decode.Tie as tie
 
-shared-slice-read-by-kind : tie.Need-shared-slice-read-by-kind
-shared-slice-read-by-kind c = search needs
-
-by-kind-requires : tie.Need-by-kind-requires
-by-kind-requires c κs = search needs
-
 returns : tie.Need-returns
 unfolding decoded
 returns c = simp (lt-ltb _ _ (c .before .before .if1 .taken)) (c .by-kind .ensures)
@@ -20,4 +14,4 @@ unfolding decoded
 returns-2 c = simp (le-ltb _ _ (c .if1 .left))
 
 pub decode-spec : {M : Type 1} → statement M
-decode-spec = tie.close (tie.spec shared-slice-read-by-kind by-kind-requires returns returns-2)
+decode-spec = tie.close (tie.spec (λ c. search needs) (λ c κs. search needs) returns returns-2)

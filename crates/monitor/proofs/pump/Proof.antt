@@ -8,8 +8,7 @@ returns : tie.Need-returns
 returns c =
     let at-step : tie.After-step = search in
     let start : tie.Start = search (at-step) in
-    let asked = start .pre in
-    pumped (start .args .f) _ _ _ _ _ _ (asked .0) (asked .1) (asked .2) (asked .3) (at-step .step .ensures)
+    pumped (start .args .f) _ _ _ _ (start .pre) (at-step .step .ensures)
 
 pub pump-spec : {M : Type 1} → statement M
 pump-spec =

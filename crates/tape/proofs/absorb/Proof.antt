@@ -7,12 +7,12 @@ use mathlib.Core.Bool.{false, true≢false}
 use denote.Ref.{now}
 use lib.ListN.{length, drop, length-drop}
 use lib.Seq.{length-take-le}
-use Rattle.rules.specs.Tables.{tables}
-use Rattle.tape.specs.Turns.{stateOf}
+use Rattle.rules.specs.Tables.{Tables, tables}
+use Rattle.tape.specs.Inner.{stateOf}
 use Rattle.tape.specs.Runs.{grown}
-use Rattle.tape.specs.Promises.{part, unfit}
-use Rattle.tape.specs.Room.{Fit, fit, room}
-use Rattle.tape.proofs.Moved.{took, waits-few}
+use Rattle.tape.specs.Promises.{part, unfitFor}
+use Rattle.tape.specs.Room.{Fit, fit, text-room}
+use Rattle.tape.proofs.Shifted.{took, waits-few}
 use borrow.Author.Needs.{needs}
 use Rattle.tape.proofs.absorb.Statement.{statement}
 use Rattle.tape.proofs.absorb.Tie as tie
@@ -30,10 +30,12 @@ returns c =
 
 -- FIT: the lengths and the numbers are what they are to be
 abbrev start : tie.Else1 → tie.Start
-start c = c .before .before .before .before .before .before .before
+start c = search
 
-good : (c : tie.Else1) → let a = start c .args in
-    unfit (length (now (a .buf))) (a .from) (a .to) (a .k) (length (now (a .values))) (length (now (a .words))) (length (now (a .out))) ≡ false
+abbrev found : tie.Else1 → Tables
+found c = let a = start c .args in tables (now (a .values)) (now (a .words)) (now (a .seats))
+
+good : (c : tie.Else1) → let a = start c .args in unfitFor (now (a .buf)) (a .from) (a .to) (a .k) (found c) (now (a .out)) ≡ false
 good c = sym (c .before .is-unfit .ensures) ∙ c .if1 .left
 
 fitting : (c : tie.Else1) → let a = start c .args in
@@ -47,10 +49,11 @@ part-length c =
     length-take-le (a .to - a .from) (drop (a .from) (now (a .buf))) (omega (arith, g .inside, length-drop (a .from) (now (a .buf))))
 
 -- what feed took lies within the part
-used-within : (c : tie.After-feed) → let fine : tie.Else1 = search in c .feed .result .used ≤ start fine .args .to - start fine .args .from
-used-within c =
-    let fine : tie.Else1 = search in
-    omega (arith, c .feed .ensures .used, part-length fine)
+abbrev fine-at : tie.After-feed → tie.Else1
+fine-at c = search
+
+used-within : (c : tie.After-feed) → let a = start (fine-at c) .args in c .feed .result .used ≤ a .to - a .from
+used-within c = omega (arith, c .feed .ensures .used, part-length (fine-at c))
 
 sub-feed : tie.Need-sub-feed
 sub-feed c = omega (arith, fitting c .behind)
@@ -65,19 +68,14 @@ feed-requires : tie.Need-feed-requires
 feed-requires c κs =
     let fine : tie.Else1 = search in
     let g = fitting fine in
-    let n = part-length fine in (
-      omega (arith, g .offset, g .roomy, start fine .good),
-      omega (arith, g .calls, g .roomy, start fine .good),
-      g .records,
-      g .values-are,
-      g .words-are,
-    )
+    let n = part-length fine in
+    record { offset = omega (arith, g .offset, g .roomy, start fine .good); calls = omega (arith, g .calls, g .roomy, start fine .good) }
 
 shift-requires : tie.Need-shift-requires
 shift-requires c κs =
     let at-feed : tie.After-feed = search in
     let fine : tie.Else1 = search (at-feed) in
-    omega (arith, used-within at-feed, fitting fine .inside, fitting fine .behind)
+    record { behind = omega (arith, used-within at-feed, fitting fine .behind); inside = fitting fine .inside }
 
 sub-t12 : tie.Need-sub-t12
 sub-t12 c =
@@ -100,17 +98,17 @@ returns-2 c =
     let g = fitting fine in
     let bytes : tie.After-slice-known = search (fine) in
     let p = part (now (a .buf)) (a .from) (a .to) in
-    let s = stateOf (a .k) (tables (now (a .values)) (now (a .words)) (now (a .seats))) in
+    let s = stateOf (a .k) (found fine) in
     let ran = at-feed .feed .ensures in
-    let roomy = room (length p) s p (le-refl (length p)) in
+    let roomy = text-room (length p) s p (le-refl (length p)) in
     let left =
-    took (now (a .buf)) (now (a .out)) (a .from) (a .to) (a .k) _ (at-feed .feed .result) _ _ _ _ ran (g .behind) (g .inside) _ (at-shift .shift .ensures)
+    took (now (a .buf)) (now (a .out)) (a .from) (a .to) (a .k) _ (at-feed .feed .result) _ _ ran (g .behind) (g .inside) _ (at-shift .shift .ensures)
     (omega (arith, roomy, part-length fine, g .roomy)) (omega (arith, start fine .good)) in
     record {
       done = λ _. record { answer-is = left .answer-is; buffer-is = left .buffer-is; tables-are = left .tables-are; out-is = left .out-is };
       refused = λ e. absurd (true≢false (sym e ∙ good fine));
       short = λ e.
-          waits-few (now (a .buf)) (now (a .out)) (a .from) (a .to) (a .k) _ (at-feed .feed .result) _ _ _ _ ran (g .behind) (g .inside)
+          waits-few (now (a .buf)) (now (a .out)) (a .from) (a .to) (a .k) _ (at-feed .feed .result) _ _ ran (g .behind) (g .inside)
           (λ i. omega (arith, bytes .slice-known .given i)) (grown (length p) s p (le-refl (length p)) .wanting (sym (ran .stopped) ∙ e));
     }
 

@@ -1,60 +1,56 @@
 -- `tape::calls` meets its contract. Assumes nothing.
+use Prim.Native.Nat.{_<_}
 use native.Mathlib.Omega.{arith}
 use denote.Ref.{now}
-use Rattle.tape.specs.Lines.{opening}
-use Rattle.tape.proofs.Wholes.{calls-stopped, calls-end}
+use lib.ListN.{length}
 use borrow.Author.Needs.{needs}
+use Rattle.tape.specs.Lines.{opening}
+use Rattle.text.specs.Text.{greatest}
+use Rattle.tape.proofs.Wholes.{calls-stopped, calls-end}
 use Rattle.tape.proofs.calls.Statement.{statement}
 use Rattle.tape.proofs.calls.Tie as tie
 
-slice-aggregate-feed : tie.Need-slice-aggregate-feed
-slice-aggregate-feed c = search needs
+abbrev start : tie.After-feed → tie.Start
+start c = search
 
-slice-aggregate-feed-2 : tie.Need-slice-aggregate-feed-2
-slice-aggregate-feed-2 c = search needs
-
-slice-aggregate-feed-3 : tie.Need-slice-aggregate-feed-3
-slice-aggregate-feed-3 c = search needs
+short : (c : tie.After-feed) → length (now (start c .args .out)) < greatest
+short c = omega (arith, start c .good)
 
 feed-requires : tie.Need-feed-requires
-feed-requires c κs = search needs
+feed-requires c κs =
+    let start : tie.Start = search in
+    record { offset = omega (arith, start .good); calls = omega (arith, start .good) }
 
-same-length : tie.Need-same-length
-same-length c = search needs
-
+-- stopped by a call
 returns : tie.Need-returns
 unfolding opening
 returns c =
-    let a = c .before .before .before .before .before .before .before .before .before .before .before .before .before .args in
-    calls-stopped (now (a .part)) (now (a .out)) (c .before .before .before .before .before .before .feed .result) _ _ (omega (arith, c .before .before .before .before .before .before .before .before .before .before .before .before .before .good)) (c .before .before .before .before .before .before .feed .ensures) (c .if1 .taken)
+    let at-feed : tie.After-feed = search in
+    let a = start at-feed .args in
+    calls-stopped (now (a .part)) (now (a .out)) (at-feed .feed .result) _ _ (short at-feed) (at-feed .feed .ensures) (c .if1 .taken)
 
-add-finish : tie.Need-add-finish
-add-finish c = search needs
-
-finish-requires : tie.Need-finish-requires
-finish-requires c κs = search needs
-
-same-length-2 : tie.Need-same-length-2
-same-length-2 c = search needs
-
+-- with a last line
 returns-2 : tie.Need-returns-2
 unfolding opening
 returns-2 c =
-    let a = c .before .before .before .before .before .before .before .before .before .before .before .before .before .before .before .before .before .args in
-    calls-end (now (a .part)) (now (a .out)) (c .before .before .before .before .before .before .before .before .before .before .feed .result) _ _ (omega (arith, c .before .before .before .before .before .before .before .before .before .before .before .before .before .before .before .before .before .good)) (c .before .before .before .before .before .before .before .before .before .before .feed .ensures) _ _
-    (c .before .before .before .before .if1 .left) (omega arith) (c .before .before .finish .ensures)
+    let at-last : tie.After-finish = search in
+    let going : tie.Else1 = search (at-last) in
+    let at-feed : tie.After-feed = search (going) in
+    let a = start at-feed .args in
+    calls-end (now (a .part)) (now (a .out)) (at-feed .feed .result) _ _ (short at-feed) (at-feed .feed .ensures) _ _
+    (going .if1 .left) (omega arith) (at-last .finish .ensures)
 
 pub calls-spec : {M : Type 1} → statement M
 calls-spec =
     tie.close
     (tie.spec
-    slice-aggregate-feed
-    slice-aggregate-feed-2
-    slice-aggregate-feed-3
+    (λ c. search needs)
+    (λ c. search needs)
+    (λ c. search needs)
     feed-requires
-    same-length
+    (λ c. search needs)
     returns
-    add-finish
-    finish-requires
-    same-length-2
+    (λ c. search needs)
+    (λ c κs. search needs)
+    (λ c. search needs)
     returns-2)

@@ -1,202 +1,202 @@
 -- `tape::feed` meets its contract: whenever the loop's test is reached, the rest of the part leads to what the whole leads to. Assumes nothing.
-use Prim.Native.Nat.{_+_, _-_, _≤_}
+use Prim.Native.Nat.{ℕ, _+_, _-_, _≤_, _<_}
 use native.Mathlib.Omega.{arith}
 use native.Mathlib.Nat.{sub-self, sub-zero, add-zero, add-assoc}
 use mathlib.Core.Path.{_≡_, refl}
+use mathlib.Core.List.{List}
 use denote.Ref.{now}
 use borrow.Author.Needs.{needs}
 use lib.ListN.{length, drop, length-drop}
 use lib.Seq.{take-all, drop-drop}
-use Rattle.rules.specs.Layout.{mostRecords}
-use Rattle.rules.specs.Tables.{tables}
-use Rattle.tape.specs.Lines.{fed}
-use Rattle.tape.specs.Turns.{most}
-use Rattle.tape.proofs.Running.{state, Going, going-start, Stepped, stepped, ran-waits, ran-stops, ran-all}
+use Rattle.rules.specs.Tables.{Tables, tables}
+use Rattle.turns.specs.Promises.{Taken}
+use Rattle.tape.specs.Lines.{State, turnFrom, Fed, fed}
+use Rattle.text.specs.Text.{greatest}
+use Rattle.tape.specs.Inner.{stateOf}
+use Rattle.tape.proofs.Running.{Going, going-start, Onward, taken-as, said, ran-waits, ran-stops, ran-all}
 use Rattle.tape.proofs.feed.Statement.{statement}
 use Rattle.tape.proofs.feed.Tie as tie
 
+-- WHAT HOLDS WHERE A TURN IS TO COME, of a run over `part` that began at s₀ and stands at s
+record Stands (part : List ℕ) (s₀ : State) (out₀ : List ℕ) (from : ℕ) (s : State) (out : List ℕ) (used end : ℕ) : Type 0 where
+  within : used ≤ length part
+  counted : s₀ .calls ≤ s .calls
+  few : s .calls - s₀ .calls ≤ used
+  values : length (s .tables .values) ≡ length (s₀ .tables .values)
+  words : length (s .tables .words) ≡ length (s₀ .tables .words)
+  seats : length (s .tables .seats) ≡ length (s₀ .tables .seats)
+  small : end ≤ greatest
+  going : Going (fed (length part) s₀ part) out₀ from (fed (length part - (s .calls - s₀ .calls)) s (drop used part)) out end
+
+abbrev at-state : ℕ → ℕ → ℕ → Tables → State
+at-state calls offset records t = record { calls = calls; offset = offset; records = records; tables = t }
+
 abbrev Inv-loop : tie.InvT-loop
 Inv-loop part values₀ words₀ seats₀ out₀ from base used₀ calls₀ records₀ end₀ values words seats out used calls records end =
-    (used ≤ length part) × (calls₀ ≤ calls) × (calls - calls₀ ≤ used) × (records ≤ mostRecords) × (length values ≡ mostRecords) × (length words ≡ mostRecords) × (length seats ≡ length seats₀) × (end ≤ most)
-    × Going (fed (length part) (state calls₀ base records₀ (tables values₀ words₀ seats₀)) part) out₀ from
-    (fed (length part - (calls - calls₀)) (state calls (base + used) records (tables values words seats)) (drop used part)) out end
+    Stands part (at-state calls₀ base records₀ (tables values₀ words₀ seats₀)) out₀ from
+    (at-state calls (base + used) records (tables values words seats)) out used end
 
 abbrev μ-loop : tie.MeasureT-loop
 μ-loop part values₀ words₀ seats₀ out₀ from base used₀ calls₀ records₀ end₀ values words seats out used calls records end = length part - used
 
 loop-holds : tie.Need-loop-holds Inv-loop μ-loop
-loop-holds c = (
-  omega arith,
-  omega arith,
-  omega arith,
-  omega arith,
-  omega arith,
-  omega arith,
-  refl,
-  omega (arith, c .before .before .before .before .before .fits .from),
-  rw (sub-self, sub-zero, add-zero) (going-start _ _ _),
-)
+loop-holds c =
+    let start : tie.Start Inv-loop μ-loop = search in
+    record {
+      within = omega arith;
+      counted = omega arith;
+      few = omega arith;
+      values = refl;
+      words = refl;
+      seats = refl;
+      small = omega (arith, start .fits .from);
+      going = rw (sub-self, sub-zero, add-zero) (going-start _ _ _);
+    }
 
-add-kept : tie.Need-add-kept Inv-loop μ-loop
-add-kept c = search needs
+-- A TURN: where it began, and what it left
+abbrev TurnAt : Type 0
+TurnAt = tie.After-take-turn Inv-loop μ-loop
 
-kept-requires : tie.Need-kept-requires Inv-loop μ-loop
-kept-requires c κs = search needs
+abbrev start-of : TurnAt → tie.Start Inv-loop μ-loop
+start-of c = search
 
-sub-take-turn : tie.Need-sub-take-turn Inv-loop μ-loop
-sub-take-turn c = search needs
+abbrev loop-of : TurnAt → tie.At-loop Inv-loop μ-loop
+loop-of c = search
 
-part-take-turn-start : tie.Need-part-take-turn-start Inv-loop μ-loop
-part-take-turn-start c = search needs
+abbrev part-of : TurnAt → List ℕ
+part-of c = now (start-of c .args .part)
 
-part-take-turn-end : tie.Need-part-take-turn-end Inv-loop μ-loop
-part-take-turn-end c = search needs
+abbrev rest-of : TurnAt → List ℕ
+rest-of c = drop (loop-of c .loop .used) (part-of c)
 
-take-turn-requires : tie.Need-take-turn-requires Inv-loop μ-loop
-take-turn-requires c κs = rw (c .before .before .before .before .before .kept .ensures) (omega arith, omega arith, omega arith, omega arith)
+abbrev state-of : TurnAt → State
+state-of c =
+    let L = loop-of c .loop in
+    at-state (L .calls) (start-of c .args .k .offset + L .used) (L .records) (tables (L .values) (L .words) (L .seats))
 
-enum-told : tie.Need-enum-told Inv-loop μ-loop
-enum-told c = search needs
+abbrev whole-of : TurnAt → Fed
+whole-of c =
+    let a = start-of c .args in
+    fed (length (part-of c)) (stateOf (a .k) (tables (now (a .values)) (now (a .words)) (now (a .seats)))) (part-of c)
 
-so-far-requires : tie.Need-so-far-requires Inv-loop μ-loop
-so-far-requires c κs = search needs
+abbrev turns-left : TurnAt → ℕ
+turns-left c = length (part-of c) - (loop-of c .loop .calls - start-of c .args .k .calls)
 
-same-length : tie.Need-same-length Inv-loop μ-loop
-same-length c = search needs
+abbrev tables-after : TurnAt → Tables
+tables-after c = let l = c .take-turn .last .1 .1 .1 .1 in tables (l .0) (l .1 .0) (l .1 .1 .0)
 
-same-length-2 : tie.Need-same-length-2 Inv-loop μ-loop
-same-length-2 c = search needs
+abbrev out-after : TurnAt → List ℕ
+out-after c = let l = c .take-turn .last .1 .1 .1 .1 in l .1 .1 .1 .0
 
-same-length-3 : tie.Need-same-length-3 Inv-loop μ-loop
-same-length-3 c = search needs
+taken : (c : TurnAt) → let L = loop-of c .loop in
+    Taken (turnFrom (state-of c) (rest-of c)) (state-of c .tables) (L .out) (L .end) (c .take-turn .result) (tables-after c) (out-after c)
+taken c =
+    let n : ℕ = length (part-of c) - loop-of c .loop .used in
+    rw (take-all n (rest-of c) (omega (arith, length-drop (loop-of c .loop .used) (part-of c)))) at (c .take-turn .ensures)
 
-same-length-4 : tie.Need-same-length-4 Inv-loop μ-loop
-same-length-4 c = search needs
+enough : (c : TurnAt) → length (rest-of c) ≤ turns-left c
+enough c = let L = loop-of c .loop in omega (arith, L .inv .few, L .inv .within, length-drop (L .used) (part-of c))
 
+short : (c : TurnAt) → length (now (start-of c .args .out)) < greatest
+short c = omega (arith, start-of c .good)
+
+-- more bytes are wanted
 returns : tie.Need-returns Inv-loop μ-loop
 returns c =
-    let a = c .before .before .before .before .before .before .before .before .before .before .before .before .before .before .before .before .before .before .before .before .before .before .before .before .before .args in
-    let L = c .before .before .before .before .before .before .before .before .before .before .before .before .before .before .before .before .before .before .before .loop in
-    let part = now (a .part) in
-    let h : length (drop (L .used) part) ≤ length part - L .used = omega (arith, length-drop (L .used) part) in
-    let k = rw (c .before .before .before .before .before .before .before .before .before .before .before .before .before .before .before .before .before .kept .ensures, take-all (length part - L .used) (drop (L .used) part) h) at (c .before .before .before .before .before .before .before .before .before .before .before .take-turn .ensures) in
+    let at-wait : tie.After-enum-told Inv-loop μ-loop = search in
+    let at-turn : TurnAt = search (at-wait) in
+    let inv = loop-of at-turn .loop .inv in
     rw (c .so-far .ensures)
-    (ran-waits _ part _ _ _ _ (L .calls) (L .used) (L .records) (L .end) (tables (L .values) (L .words) (L .seats)) (L .out) _ _ (omega (arith, L .inv)) (omega (arith, c .before .before .before .before .before .before .before .before .before .before .before .before .before .before .before .before .before .before .before .before .before .before .before .before .before .good)) (L .inv .7) (L .inv .0) (L .inv .8)
-    (rw (c .before .enum-told .given .1) at k))
+    (ran-waits (whole-of at-turn) (part-of at-turn) _ _ _ (turns-left at-turn) _ (state-of at-turn) _ _ _ _
+    (enough at-turn) (short at-turn) (inv .small) (inv .within) refl (inv .going) (taken-as (at-wait .enum-told .given .1) (taken at-turn)))
 
-enum-known-t : tie.Need-enum-known-t Inv-loop μ-loop
-enum-known-t c = search needs
-
-sum-requires : tie.Need-sum-requires Inv-loop μ-loop
-sum-requires c κs = search needs
-
-so-far-requires-2 : tie.Need-so-far-requires-2 Inv-loop μ-loop
-so-far-requires-2 c κs = search needs
-
-same-length-5 : tie.Need-same-length-5 Inv-loop μ-loop
-same-length-5 c = omega (arith, c .before .before .before .before .before .before .before .before .before .before .before .before .before .before .before .before .before .before .before .before .before .before .before .before .before .before .before .pre)
-
-same-length-6 : tie.Need-same-length-6 Inv-loop μ-loop
-same-length-6 c = omega (arith, c .before .before .before .before .before .before .before .before .before .before .before .before .before .before .before .before .before .before .before .before .before .before .before .before .before .before .before .pre)
-
-same-length-7 : tie.Need-same-length-7 Inv-loop μ-loop
-same-length-7 c = search needs
-
-same-length-8 : tie.Need-same-length-8 Inv-loop μ-loop
-same-length-8 c = search needs
-
+-- the tape is stopped
 returns-2 : tie.Need-returns-2 Inv-loop μ-loop
 returns-2 c =
-    let a = c .before .before .before .before .before .before .before .before .before .before .before .before .before .before .before .before .before .before .before .before .before .before .before .before .before .before .before .args in
-    let L = c .before .before .before .before .before .before .before .before .before .before .before .before .before .before .before .before .before .before .before .before .before .loop in
-    let part = now (a .part) in
-    let h : length (drop (L .used) part) ≤ length part - L .used = omega (arith, length-drop (L .used) part) in
-    let k = rw (c .before .before .before .before .before .before .before .before .before .before .before .before .before .before .before .before .before .before .before .kept .ensures, take-all (length part - L .used) (drop (L .used) part) h) at (c .before .before .before .before .before .before .before .before .before .before .before .before .before .take-turn .ensures) in
+    let at-sum : tie.After-sum Inv-loop μ-loop = search in
+    let at-stop : tie.After-t Inv-loop μ-loop = search (at-sum) in
+    let at-turn : TurnAt = search (at-stop) in
+    let inv = loop-of at-turn .loop .inv in
     rw (c .so-far2 .ensures)
-    (ran-stops _ part _ _ _ _ (L .calls) (L .used) (L .records) (L .end) (tables (L .values) (L .words) (L .seats)) (L .out) _ _ (omega (arith, L .inv)) (omega (arith, c .before .before .before .before .before .before .before .before .before .before .before .before .before .before .before .before .before .before .before .before .before .before .before .before .before .before .before .good)) (L .inv .7) (L .inv .0) (L .inv .8) _ _
-    (rw (c .before .before .before .t .given .1) at k) (c .before .sum .ensures))
+    (ran-stops (whole-of at-turn) (part-of at-turn) _ _ _ (turns-left at-turn) _ (state-of at-turn) _ _ _ _
+    (enough at-turn) (short at-turn) (inv .small) (inv .within) refl (inv .going) _ _ (taken-as (at-stop .t .given .1) (taken at-turn)) (at-sum .sum .ensures))
 
-enum-known-t-2 : tie.Need-enum-known-t-2 Inv-loop μ-loop
-enum-known-t-2 c = search needs
-
--- where a turn has said a line
+-- A LINE WAS SAID
 abbrev SaidAt : Type 0
-SaidAt = tie.After-known-told2 Inv-loop μ-loop
+SaidAt = tie.After-t2 Inv-loop μ-loop
 
-abbrev Next : SaidAt → Type 0
-Next c =
-    let a = c .before .before .before .before .before .before .before .before .before .before .before .before .before .before .before .before .before .before .before .before .before .before .before .before .before .args in
-    let L = c .before .before .before .before .before .before .before .before .before .before .before .before .before .before .before .before .before .before .before .loop in
-    let r = c .before .before .before .before .before .before .before .before .before .before .before .take-turn in
-    let d = c .before .t2 .given in
-    Stepped (fed (length (now (a .part))) (state (a .k .calls) (a .k .offset) (a .k .records) (tables (now (a .values)) (now (a .words)) (now (a .seats)))) (now (a .part))) (now (a .out)) (a .from)
-    (length (now (a .part)) - (L .calls - a .k .calls)) (L .calls) (a .k .offset + L .used) (L .records) (drop (L .used) (now (a .part)))
-    (d .0 .0) (d .0 .1 .0) (d .0 .1 .1 .0) (L .end)
-    (tables (r .last .1 .1 .0) (r .last .1 .1 .1 .0) (r .last .1 .1 .1 .1 .0)) (r .last .1 .1 .1 .1 .1 .0)
+abbrev turn-of : SaidAt → TurnAt
+turn-of c = search
 
-step-at : (c : SaidAt) → Next c
-step-at c =
-    let a = c .before .before .before .before .before .before .before .before .before .before .before .before .before .before .before .before .before .before .before .before .before .before .before .before .before .args in
-    let L = c .before .before .before .before .before .before .before .before .before .before .before .before .before .before .before .before .before .before .before .loop in
-    let part = now (a .part) in
-    let h : length (drop (L .used) part) ≤ length part - L .used = omega (arith, length-drop (L .used) part) in
-    let k = rw (c .before .before .before .before .before .before .before .before .before .before .before .before .before .before .before .before .before .kept .ensures, take-all (length part - L .used) (drop (L .used) part) h) at (c .before .before .before .before .before .before .before .before .before .before .before .take-turn .ensures) in
-    stepped _ _ _ _ (L .calls) _ (L .records) (tables (L .values) (L .words) (L .seats)) _ (L .out) (L .end) _ _ _ _ _ (omega (arith, L .inv)) (omega (arith, c .before .before .before .before .before .before .before .before .before .before .before .before .before .before .before .before .before .before .before .before .before .before .before .before .before .good)) (L .inv .8)
-    (rw (c .before .t2 .given .1) at k)
+onward : (c : SaidAt) → let k = turn-of c in let d = c .t2 .given .0 in
+    Onward (whole-of k) (now (start-of k .args .out)) (start-of k .args .from) (turns-left k) (state-of k) (rest-of k) (d .0) (d .1 .0) (d .1 .1 .0)
+    (loop-of k .loop .end) (tables-after k) (out-after k)
+onward c =
+    let k = turn-of c in
+    said _ _ _ _ (state-of k) _ _ _ _ _ _ _ _ (enough k) (short k) (loop-of k .loop .inv .going) (taken-as (c .t2 .given .1) (taken k))
 
 add-used : tie.Need-add-used Inv-loop μ-loop
-add-used c = omega (arith, step-at c .inside, length-drop (c .before .before .before .before .before .before .before .before .before .before .before .before .before .before .before .before .before .before .before .loop .used) (now (c .before .before .before .before .before .before .before .before .before .before .before .before .before .before .before .before .before .before .before .before .before .before .before .before .before .args .part)), c .before .before .before .before .before .before .before .before .before .before .before .before .before .before .before .before .before .before .before .before .before .before .before .before .before .good)
+add-used c =
+    let at-said : SaidAt = search in
+    let k = turn-of at-said in
+    omega (arith, onward at-said .within, length-drop (loop-of k .loop .used) (part-of k), loop-of k .loop .inv .within, start-of k .good)
+
+add-take-turn : tie.Need-add-take-turn Inv-loop μ-loop
+add-take-turn c =
+    let start : tie.Start Inv-loop μ-loop = search in
+    let at-loop : tie.At-loop Inv-loop μ-loop = search in
+    omega (arith, start .pre .calls, at-loop .loop .inv .few, at-loop .loop .inv .counted)
+
+add-offset : tie.Need-add-offset Inv-loop μ-loop
+add-offset c =
+    let start : tie.Start Inv-loop μ-loop = search in
+    let at-loop : tie.At-loop Inv-loop μ-loop = search in
+    omega (arith, start .pre .offset, at-loop .loop .inv .within)
 
 add-calls : tie.Need-add-calls Inv-loop μ-loop
-add-calls c = omega (arith, c .before .before .before .before .before .before .before .before .before .before .before .before .before .before .before .before .before .before .before .before .before .before .before .before .before .pre, c .before .before .before .before .before .before .before .before .before .before .before .before .before .before .before .before .before .before .before .loop .inv)
-
-sum-requires-2 : tie.Need-sum-requires-2 Inv-loop μ-loop
-sum-requires-2 c κs = search needs
+add-calls c =
+    let at-said : SaidAt = search in
+    let k = turn-of at-said in
+    let inv = loop-of k .loop .inv in
+    omega (arith, start-of k .pre .calls, inv .few, inv .counted, inv .within, onward at-said .within, onward at-said .least)
 
 loop-less : tie.Need-loop-less Inv-loop μ-loop
 loop-less c =
-    omega (arith, step-at (c .before) .inside, step-at (c .before) .least, length-drop (c .before .before .before .before .before .before .before .before .before .before .before .before .before .before .before .before .before .before .before .before .loop .used) (now (c .before .before .before .before .before .before .before .before .before .before .before .before .before .before .before .before .before .before .before .before .before .before .before .before .before .before .args .part)))
+    let at-said : SaidAt = search in
+    let k = turn-of at-said in
+    omega (arith, onward at-said .within, onward at-said .least, length-drop (loop-of k .loop .used) (part-of k))
 
 loop-again : tie.Need-loop-again Inv-loop μ-loop
 loop-again c =
-    let a = c .before .before .before .before .before .before .before .before .before .before .before .before .before .before .before .before .before .before .before .before .before .before .before .before .before .before .args in
-    let L = c .before .before .before .before .before .before .before .before .before .before .before .before .before .before .before .before .before .before .before .before .loop in
-    let part = now (a .part) in
-    let s = step-at (c .before) in
-    let h = length-drop (L .used) part in
-    let e : length part - (L .calls - a .k .calls) - 1 ≡ length part - (L .calls + 1 - a .k .calls) = omega (arith, L .inv) in (
-      omega (arith, s .inside, h),
-      omega (arith, L .inv),
-      omega (arith, L .inv, s .least),
-      s .few (L .inv .3),
-      omega arith,
-      omega arith,
-      omega arith,
-      omega (arith, c .sum2 .ok),
-      rw (c .sum2 .ensures) (rw (e, add-assoc (a .k .offset) (L .used) _, drop-drop _ (L .used) part) at (s .going)),
-    )
+    let at-said : SaidAt = search in
+    let k = turn-of at-said in
+    let L = loop-of k .loop in
+    let inv = L .inv in
+    let k₀ = start-of k .args .k in
+    let s = onward at-said in
+    let h = length-drop (L .used) (part-of k) in
+    let e : turns-left k - 1 ≡ length (part-of k) - (L .calls + 1 - k₀ .calls) = omega (arith, inv .counted) in
+    record {
+      within = omega (arith, s .within, h);
+      counted = omega (arith, inv .counted);
+      few = omega (arith, inv .counted, inv .few, s .least);
+      values = search needs;
+      words = search needs;
+      seats = search needs;
+      small = omega (arith, c .sum2 .ok);
+      going = rw (c .sum2 .ensures) (rw (e, add-assoc (k₀ .offset) (L .used) _, drop-drop _ (L .used) (part-of k)) at (s .going));
+    }
 
-so-far-requires-3 : tie.Need-so-far-requires-3 Inv-loop μ-loop
-so-far-requires-3 c κs = search needs
-
-same-length-9 : tie.Need-same-length-9 Inv-loop μ-loop
-same-length-9 c = search needs
-
-same-length-10 : tie.Need-same-length-10 Inv-loop μ-loop
-same-length-10 c = search needs
-
-same-length-11 : tie.Need-same-length-11 Inv-loop μ-loop
-same-length-11 c = search needs
-
-same-length-12 : tie.Need-same-length-12 Inv-loop μ-loop
-same-length-12 c = search needs
-
+-- THE END OF THE PART
 returns-3 : tie.Need-returns-3 Inv-loop μ-loop
 returns-3 c =
-    let L = c .before .before .loop in
+    let at-loop : tie.At-loop Inv-loop μ-loop = search in
+    let start : tie.Start Inv-loop μ-loop = search in
+    let L = at-loop .loop in
     rw (c .so-far3 .ensures)
-    (ran-all _ (now (c .before .before .before .before .before .before .before .before .args .part)) _ _ _ _ (L .calls) (L .used) (L .records) (L .end) (tables (L .values) (L .words) (L .seats)) (L .out) (omega (arith, c .before .before .before .before .before .before .before .before .good)) (L .inv .7) (L .inv .0) (omega arith)
-    (L .inv .8))
+    (ran-all _ (now (start .args .part)) _ _ _ _ (L .used)
+    (at-state (L .calls) (start .args .k .offset + L .used) (L .records) (tables (L .values) (L .words) (L .seats))) (L .end) (L .out)
+    (omega (arith, start .good)) (L .inv .small) (L .inv .within) (omega arith) refl (L .inv .going))
 
 pub feed-spec : {M : Type 1} → statement M
 feed-spec =
@@ -205,36 +205,36 @@ feed-spec =
     Inv-loop
     μ-loop
     loop-holds
-    add-kept
-    kept-requires
-    sub-take-turn
-    part-take-turn-start
-    part-take-turn-end
-    take-turn-requires
-    enum-told
-    so-far-requires
-    same-length
-    same-length-2
-    same-length-3
-    same-length-4
+    add-offset
+    (λ c. search needs)
+    (λ c. search needs)
+    (λ c. search needs)
+    add-take-turn
+    (λ c κs. search needs)
+    (λ c. search needs)
+    (λ c κs. search needs)
+    (λ c. search needs)
+    (λ c. search needs)
+    (λ c. search needs)
+    (λ c. search needs)
     returns
-    enum-known-t
-    sum-requires
-    so-far-requires-2
-    same-length-5
-    same-length-6
-    same-length-7
-    same-length-8
+    (λ c. search needs)
+    (λ c κs. search needs)
+    (λ c κs. search needs)
+    (λ c. search needs)
+    (λ c. search needs)
+    (λ c. search needs)
+    (λ c. search needs)
     returns-2
-    enum-known-t-2
+    (λ c. search needs)
     add-used
     add-calls
-    sum-requires-2
+    (λ c κs. search needs)
     loop-less
     loop-again
-    so-far-requires-3
-    same-length-9
-    same-length-10
-    same-length-11
-    same-length-12
+    (λ c κs. search needs)
+    (λ c. search needs)
+    (λ c. search needs)
+    (λ c. search needs)
+    (λ c. search needs)
     returns-3)

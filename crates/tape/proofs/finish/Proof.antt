@@ -1,50 +1,31 @@
 -- `tape::finish` meets its contract. Assumes nothing.
-use Rattle.tape.proofs.Wholes.{ends, cut-short}
 use borrow.Author.Needs.{needs}
+use Rattle.tape.proofs.Wholes.{ends, cut-short}
 use Rattle.tape.proofs.finish.Statement.{statement}
 use Rattle.tape.proofs.finish.Tie as tie
 
-slice-aggregate-last : tie.Need-slice-aggregate-last
-slice-aggregate-last c = search needs
-
-last-requires : tie.Need-last-requires
-last-requires c κs = search needs
-
-sum-requires : tie.Need-sum-requires
-sum-requires c κs = search needs
-
-same-length : tie.Need-same-length
-same-length c = search needs
-
 returns : tie.Need-returns
-returns c = rw (c .before .before .before .before .before .before .if1 .taken) (ends _ _ (c .before .before .before .last .ensures) (c .sum .ensures))
-
-slice-aggregate-last-2 : tie.Need-slice-aggregate-last-2
-slice-aggregate-last-2 c = search needs
-
-last-requires-2 : tie.Need-last-requires-2
-last-requires-2 c κs = search needs
-
-sum-requires-2 : tie.Need-sum-requires-2
-sum-requires-2 c κs = search needs
-
-same-length-2 : tie.Need-same-length-2
-same-length-2 c = search needs
+returns c =
+    let at-line : tie.After-last = search in
+    let whole : tie.Then1 = search (at-line) in
+    rw (whole .if1 .taken) (ends _ _ (at-line .last .ensures) (c .sum .ensures))
 
 returns-2 : tie.Need-returns-2
-returns-2 c = rw (c .before .before .before .before .before .before .if1 .left) (cut-short _ _ (c .before .before .before .last2 .ensures) (c .sum2 .ensures))
+returns-2 c =
+    let at-line : tie.After-stop = search in
+    let cut : tie.Else1 = search (at-line) in
+    rw (cut .if1 .left) (cut-short _ _ (at-line .stop .ensures) (c .sum2 .ensures))
 
 pub finish-spec : {M : Type 1} → statement M
 finish-spec =
     tie.close
     (tie.spec
-    slice-aggregate-last
-    last-requires
-    sum-requires
-    same-length
+    (λ c. search needs)
+    (λ c κs. search needs)
+    (λ c κs. search needs)
+    (λ c. search needs)
     returns
-    slice-aggregate-last-2
-    last-requires-2
-    sum-requires-2
-    same-length-2
+    (λ c κs. search needs)
+    (λ c κs. search needs)
+    (λ c. search needs)
     returns-2)

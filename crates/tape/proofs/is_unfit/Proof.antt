@@ -5,7 +5,8 @@ use mathlib.Core.Path.{_≡_, refl, sym}
 use mathlib.Core.Bool.{Bool, true, false}
 use lib.Dec.{ltb}
 use Rattle.rules.specs.Tests.{oneOf}
-use Rattle.tape.specs.Promises.{lineRoom, lastRoom, roomFor, unfit}
+use Rattle.turns.specs.Turns.{lineRoom, lastRoom}
+use Rattle.tape.specs.Promises.{roomFor, unfit}
 use borrow.Author.Tests.{eq-eqb, le-ltb, lt-ltb, ne-eqb, ltb-true, ltb-false}
 use Rattle.tape.proofs.is_unfit.Statement.{statement}
 use Rattle.tape.proofs.is_unfit.Tie as tie

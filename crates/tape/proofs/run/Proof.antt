@@ -1,55 +1,49 @@
 -- `tape::run` meets its contract. Assumes nothing.
+use Prim.Native.Nat.{_<_}
 use native.Mathlib.Omega.{arith}
 use mathlib.Core.Path.{_≡_}
-use mathlib.Core.List.{[]}
+use mathlib.Core.List.{List, []}
 use denote.Ref.{now}
-use Rattle.tape.proofs.Wholes.{nothing-of, run-fits, run-not}
+use lib.ListN.{length}
 use borrow.Author.Needs.{needs}
+use Rattle.text.specs.Text.{greatest}
+use Rattle.tape.proofs.Wholes.{nothing-of, run-fits, run-not}
 use Rattle.tape.proofs.run.Statement.{statement}
 use Rattle.tape.proofs.run.Tie as tie
 
-slice-relend-prefix-pass : tie.Need-slice-relend-prefix-pass
-slice-relend-prefix-pass c = search needs
+-- THE FIRST PASS measures, over no bytes of the output
+abbrev start : tie.After-lines → tie.Start
+start c = search
 
-slice-aggregate-pass : tie.Need-slice-aggregate-pass
-slice-aggregate-pass c = search needs
+nothing-put : (c : tie.After-lines) → c .lines .last .1 .0 ≡ []
+nothing-put c = nothing-of _ (omega arith)
 
-pass-requires : tie.Need-pass-requires
-pass-requires c κs = search needs
-
-pass-requires-2 : tie.Need-pass-requires-2
-pass-requires-2 c κs = search needs
-
-same-length : tie.Need-same-length
-same-length c = search needs
+short : (c : tie.After-lines) → length (now (start c .args .out)) < greatest
+short c = omega (arith, start c .good)
 
 returns : tie.Need-returns
 returns c =
-    let a = c .before .before .before .before .before .before .before .before .before .before .before .args in
-    let first = c .before .before .before .before .before .before .before .pass in
-    let z : first .last .1 .0 ≡ [] = nothing-of _ (omega arith) in
-    run-fits (now (a .tape)) (now (a .out)) _ _ (first .ensures .end) (omega arith) (omega (arith, c .before .before .before .before .before .before .before .before .before .before .before .good))
-    (rw z at (c .before .before .pass2 .ensures .text))
-
-same-length-2 : tie.Need-same-length-2
-same-length-2 c = search needs
+    let at-second : tie.After-lines2 = search in
+    let at-first : tie.After-lines = search (at-second) in
+    let a = start at-first .args in
+    run-fits (now (a .tape)) (now (a .out)) _ _ (at-first .lines .ensures .end) (omega arith) (short at-first)
+    (rw (nothing-put at-first) at (at-second .lines2 .ensures .text))
 
 returns-2 : tie.Need-returns-2
 returns-2 c =
-    let a = c .before .before .before .before .before .before .before .args in
-    let first = c .before .before .before .pass in
-    let z : first .last .1 .0 ≡ [] = nothing-of _ (omega arith) in
-    rw z (run-not (now (a .tape)) (now (a .out)) _ (first .ensures .end) (omega arith) (omega (arith, c .before .before .before .before .before .before .before .good)))
+    let at-first : tie.After-lines = search in
+    let a = start at-first .args in
+    rw (nothing-put at-first) (run-not (now (a .tape)) (now (a .out)) _ (at-first .lines .ensures .end) (omega arith) (short at-first))
 
 pub run-spec : {M : Type 1} → statement M
 run-spec =
     tie.close
     (tie.spec
-    slice-relend-prefix-pass
-    slice-aggregate-pass
-    pass-requires
-    pass-requires-2
-    same-length
+    (λ c. search needs)
+    (λ c. search needs)
+    (λ c κs. search needs)
+    (λ c κs. search needs)
+    (λ c. search needs)
     returns
-    same-length-2
+    (λ c. search needs)
     returns-2)

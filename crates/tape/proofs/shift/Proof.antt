@@ -1,5 +1,5 @@
 -- `tape::shift` meets its contract. Assumes nothing.
-use Rattle.tape.proofs.Moved.{shift-step}
+use Rattle.tape.proofs.Shifted.{shift-step}
 use denote.Ref.{now}
 use lib.Seq.{paste, paste-zero}
 use lib.ListN.{length, length-set, drop, getD, set}
@@ -20,24 +20,6 @@ abbrev μ-loop : tie.MeasureT-loop
 loop-holds : tie.Need-loop-holds Inv-loop μ-loop
 loop-holds c = (omega arith, refl, paste-zero (now (c .args .buf)) 0 (drop (c .args .from) (now (c .args .buf))))
 
-sub-loop : tie.Need-sub-loop Inv-loop μ-loop
-sub-loop c = search needs
-
-add-buf : tie.Need-add-buf Inv-loop μ-loop
-add-buf c = search needs
-
-slice-read-buf : tie.Need-slice-read-buf Inv-loop μ-loop
-slice-read-buf c = search needs
-
-slice-write-buf : tie.Need-slice-write-buf Inv-loop μ-loop
-slice-write-buf c = search needs
-
-add-i : tie.Need-add-i Inv-loop μ-loop
-add-i c = search needs
-
-loop-less : tie.Need-loop-less Inv-loop μ-loop
-loop-less c = search needs
-
 loop-again : tie.Need-loop-again Inv-loop μ-loop
 loop-again c =
     let a = c .before .before .before .args in
@@ -46,9 +28,6 @@ loop-again c =
       simp length-set (omega arith),
       ap (λ (b : List ℕ). set b (L .i) (getD b (a .from + L .i) 0)) (L .inv .2) ∙ shift-step (now (a .buf)) (a .from) (L .i) (omega arith),
     )
-
-same-length : tie.Need-same-length Inv-loop μ-loop
-same-length c = search needs
 
 returns : tie.Need-returns Inv-loop μ-loop
 returns c =
@@ -63,12 +42,12 @@ shift-spec =
     Inv-loop
     μ-loop
     loop-holds
-    sub-loop
-    add-buf
-    slice-read-buf
-    slice-write-buf
-    add-i
-    loop-less
+    (λ c. search needs)
+    (λ c. search needs)
+    (λ c. search needs)
+    (λ c. search needs)
+    (λ c. search needs)
+    (λ c. search needs)
     loop-again
-    same-length
+    (λ c. search needs)
     returns)

@@ -1,45 +1,33 @@
 -- `text::append_last` meets its contract. Assumes nothing.
-use Rattle.text.specs.Puts.{length-last, put-fits, put-not}
 use mathlib.Core.Path.{_∙_}
-use denote.Ref.{now}
 use native.Mathlib.Omega.{arith}
+use denote.Ref.{now}
 use borrow.Author.Needs.{needs}
+use Rattle.text.specs.Puts.{length-last, put-fits, put-not}
 use Rattle.text.proofs.append_last.Statement.{statement}
 use Rattle.text.proofs.append_last.Tie as tie
 
-width-requires : tie.Need-width-requires
-width-requires c κs = search needs
-
-add-len : tie.Need-add-len
-add-len c = search needs
-
-add-len-2 : tie.Need-add-len-2
-add-len-2 c = search needs
-
-sub-if2 : tie.Need-sub-if2
-sub-if2 c = search needs
-
-put-last-requires : tie.Need-put-last-requires
-put-last-requires c κs = search needs
-
-same-length : tie.Need-same-length
-same-length c = search needs
-
+-- it fits
 returns : tie.Need-returns
 returns c =
-    let a = c .before .before .before .before .before .before .before .before .before .args in
+    let at-text : tie.After-put-last = search in
+    let start : tie.Start = search (at-text) in
+    let a = start .args in
     let h = length-last (now (a .s)) (a .x) in
-    record { size = omega arith; text = c .before .before .put-last .ensures ∙ put-fits (now (a .out)) (a .at) _ (omega arith) }
+    record { size = omega arith; text = at-text .put-last .ensures ∙ put-fits (now (a .out)) (a .at) _ (omega arith) }
 
+-- it does not
 returns-2 : tie.Need-returns-2
 returns-2 c =
-    let a = c .before .before .before .before .before .args in
+    let start : tie.Start = search in
+    let a = start .args in
     let h = length-last (now (a .s)) (a .x) in
     record { size = omega arith; text = put-not (now (a .out)) (a .at) _ (omega arith) }
 
 returns-3 : tie.Need-returns-3
 returns-3 c =
-    let a = c .before .before .before .before .args in
+    let start : tie.Start = search in
+    let a = start .args in
     let h = length-last (now (a .s)) (a .x) in
     record { size = omega arith; text = put-not (now (a .out)) (a .at) _ (omega arith) }
 
@@ -47,12 +35,12 @@ pub append-last-spec : {M : Type 1} → statement M
 append-last-spec =
     tie.close
     (tie.spec
-    width-requires
-    add-len
-    add-len-2
-    sub-if2
-    put-last-requires
-    same-length
+    (λ c κs. search needs)
+    (λ c. search needs)
+    (λ c. search needs)
+    (λ c. search needs)
+    (λ c κs. search needs)
+    (λ c. search needs)
     returns
     returns-2
     returns-3)

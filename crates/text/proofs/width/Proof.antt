@@ -1,6 +1,6 @@
 -- `text::width` meets its contract. Assumes nothing.
 use Rattle.text.proofs.Laws.{width-more, width-end}
-use Rattle.text.specs.Text.{widthIn, widthOf}
+use Rattle.text.specs.Text.{mostDigits, widthIn, widthOf}
 use Rattle.text.specs.Puts.{width-done}
 use native.Mathlib.Omega.{arith}
 use mathlib.Core.Path.{_≡_}
@@ -10,10 +10,10 @@ use Rattle.text.proofs.width.Statement.{statement}
 use Rattle.text.proofs.width.Tie as tie
 
 abbrev Inv-loop : tie.InvT-loop
-Inv-loop n k₀ rest₀ k rest = (1 ≤ k) × (k ≤ 20) × (k + widthIn (20 - k) rest ≡ 1 + widthOf n)
+Inv-loop n k₀ rest₀ k rest = (1 ≤ k) × (k ≤ mostDigits) × (k + widthIn (mostDigits - k) rest ≡ 1 + widthOf n)
 
 abbrev μ-loop : tie.MeasureT-loop
-μ-loop n k₀ rest₀ k rest = 20 - k
+μ-loop n k₀ rest₀ k rest = mostDigits - k
 
 loop-holds : tie.Need-loop-holds Inv-loop μ-loop
 unfolding widthOf
@@ -23,16 +23,10 @@ returns : tie.Need-returns Inv-loop μ-loop
 returns c =
     let at-loop = c .before .before .loop in
     record {
-      is-width = omega (arith, width-done (20 - at-loop .k) (at-loop .rest) (omega arith));
+      is-width = omega (arith, width-done (mostDigits - at-loop .k) (at-loop .rest) (omega arith));
       least = search needs;
       most = search needs;
     }
-
-add-k : tie.Need-add-k Inv-loop μ-loop
-add-k c = search needs
-
-loop-less : tie.Need-loop-less Inv-loop μ-loop
-loop-less c = search needs
 
 loop-again : tie.Need-loop-again Inv-loop μ-loop
 loop-again c = (search needs, search needs, omega (arith, width-more (c .before .before .loop .k) (c .before .before .loop .rest) (omega arith) (omega arith)))
@@ -47,4 +41,4 @@ returns-2 c =
 
 pub width-spec : {M : Type 1} → statement M
 width-spec =
-    tie.close (tie.spec Inv-loop μ-loop loop-holds returns add-k loop-less loop-again returns-2)
+    tie.close (tie.spec Inv-loop μ-loop loop-holds returns (λ c. search needs) (λ c. search needs) loop-again returns-2)

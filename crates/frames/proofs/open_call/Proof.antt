@@ -1,0 +1,14 @@
+-- `frames::open_call` meets its contract. Assumes nothing.
+use borrow.Author.Tests.{eq-eqb, ne-eqb}
+use borrow.Author.Needs.{needs}
+use Rattle.frames.proofs.open_call.Statement.{statement}
+use Rattle.frames.proofs.open_call.Tie as tie
+
+returns : tie.Need-returns
+returns c = simp (eq-eqb _ _ (c .before .before .if1 .taken)) (cc)
+
+returns-2 : tie.Need-returns-2
+returns-2 c = simp (ne-eqb _ _ (c .if1 .left))
+
+pub open-call-spec : {M : Type 1} → statement M
+open-call-spec = tie.close (tie.spec (λ c. search needs) (λ c κs. search needs) returns returns-2)

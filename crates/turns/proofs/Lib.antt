@@ -1,0 +1,4 @@
+-- Laws that more than one function's proof rests on.
+pub mod Copies
+pub mod Lending
+pub mod Turning
