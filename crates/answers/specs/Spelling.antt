@@ -5,13 +5,13 @@ use mathlib.Core.List.{List, _++_}
 use native.Mathlib.Omega.{arith}
 use lib.ListN.{length, take, replicate}
 use Rattle.text.specs.Text.{mostLetters, bytes}
-use Rattle.rules.specs.Answers.{word}
+use Rattle.rules.specs.Answers.{spelling}
 use Rattle.rules.specs.declared.Answer.{Answer}
 use Rattle.rules.specs.declared.Answer.the-variants.{Ready, Seat, Value, Noted, Locked, Timed, Checked, Sealed, Stored, Done, Dropped, Refused, Aborted}
 use Rattle.answers.specs.declared.Spelled.{Spelled}
 
 abbrev pub lettersOf : Answer → List ℕ
-lettersOf a = bytes (word a)
+lettersOf a = bytes (spelling a)
 
 abbrev pub spelled : Answer → Spelled
 spelled a = record { letters = lettersOf a ++ replicate (mostLetters - length (lettersOf a)) 32; len = length (lettersOf a) }
