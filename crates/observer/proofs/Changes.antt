@@ -59,11 +59,11 @@ begins-is (Advance o s) a e = absurd (true≢false (sym e))
 begins-is (Abandon o s) a e = absurd (true≢false (sym e))
 
 -- THE ADVANCE of a seat by an owner
-pub advance-is : (o s : ℕ) (c : Call) → isAdvance o s c ≡ true → c ≡ Advance o s
+pub its-advance : (o s : ℕ) (c : Call) → isAdvance o s c ≡ true → c ≡ Advance o s
 unfolding isAdvance
-advance-is o s (Setup start plan) e = absurd (true≢false (sym e))
-advance-is o s (Open p) e = absurd (true≢false (sym e))
-advance-is o s (Read p j item) e = absurd (true≢false (sym e))
-advance-is o s (Write p j item v) e = absurd (true≢false (sym e))
-advance-is o s (Advance p j) e = let q = both (eqb p o) (eqb j s) e in rw (eqb-true p o (q .0), eqb-true j s (q .1)) refl
-advance-is o s (Abandon p j) e = absurd (true≢false (sym e))
+its-advance o s (Setup start plan) e = absurd (true≢false (sym e))
+its-advance o s (Open p) e = absurd (true≢false (sym e))
+its-advance o s (Read p j item) e = absurd (true≢false (sym e))
+its-advance o s (Write p j item v) e = absurd (true≢false (sym e))
+its-advance o s (Advance p j) e = let q = both (eqb p o) (eqb j s) e in rw (eqb-true p o (q .0), eqb-true j s (q .1)) refl
+its-advance o s (Abandon p j) e = absurd (true≢false (sym e))

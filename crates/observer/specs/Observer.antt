@@ -52,15 +52,16 @@ pub record Observer : Type 0 where
   -- the sealed transactions, in the order of sealing
   pub sealed : List Transaction
 
--- a seat given to o, of which nothing else is seen yet
-abbrev pub givenTo : ℕ → Seen
-givenTo o =
-    record { isOpen = true; holder = o; advances = []; isSealed = false; reads = []; writes = []; locked = λ x. false; key = 0; left = 0 }
+-- a seat of which no more is seen than whether it is given, and to whom: one given to o, and one not given
+abbrev pub untouched : Bool → ℕ → Seen
+untouched isOpen holder =
+    record { isOpen = isOpen; holder = holder; advances = []; isSealed = false; reads = []; writes = []; locked = λ x. false; key = 0; left = 0 }
 
--- a seat that is not given: nothing is seen of it
+abbrev pub givenTo : ℕ → Seen
+givenTo o = untouched true o
+
 abbrev pub unseen : Seen
-unseen =
-    record { isOpen = false; holder = 0; advances = []; isSealed = false; reads = []; writes = []; locked = λ x. false; key = 0; left = 0 }
+unseen = untouched false 0
 
 -- what is seen after a Setup with this plan, and by one who has seen none
 abbrev pub begunWith : List ℕ → Observer

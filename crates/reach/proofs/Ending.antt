@@ -21,7 +21,7 @@ use Rattle.rules.specs.declared.Answer.{Answer}
 use Rattle.rules.specs.declared.Answer.the-variants.{Ready, Seat, Value, Noted, Locked, Timed, Checked, Sealed, Stored, Done, Dropped, Refused, Aborted}
 use Rattle.rows.specs.Fine.{Fine, fine}
 use Rattle.observer.specs.Observer.{Seen, Observer, givenTo, begunWith, onAdvance, observe, observed, isSetup, begins, isAdvance, NoSetup}
-use Rattle.observer.proofs.Changes.{changed-same, changed-other, refusal-shows, advance-is}
+use Rattle.observer.proofs.Changes.{changed-same, changed-other, refusal-shows, its-advance}
 use Rattle.reach.specs.Reached.{Reached, begun, seen}
 use Rattle.reach.specs.Counts.{advanceCount, writeCount, readCount}
 use Rattle.reach.specs.Life.{advanced}
@@ -194,9 +194,9 @@ sealed-run t z o s n low k (c ∷ cs) q =
     let none = q (event t c) (unfold event in here refl) in
     let rest : NoSetup (history (step t c .tables) cs) = λ e i. q e (there i) in
     by (isAdvance o s c)
-    (λ e. rw (e, advance-is o s c e)
+    (λ e. rw (e, its-advance o s c e)
     (advance-run t z o s n low k _
-    (λ m l. sealed-run (step t (Advance o s) .tables) (more z (Advance o s)) o s m low l cs (rw (advance-is o s c e) at rest))))
+    (λ m l. sealed-run (step t (Advance o s) .tables) (more z (Advance o s)) o s m low l cs (rw (its-advance o s c e) at rest))))
     (λ e. let same : seen (more z c) .seats s ≡ seen z .seats s =
     ap (λ (b : Observer). b .seats s) (seen-more z c) ∙ still t z s low (k .is-sealed) c (rw (k .by-holder) e) (unfold event in none) in
     rw e (sealed-run (step t c .tables) (more z c) o s n low (rw same k) cs rest))
