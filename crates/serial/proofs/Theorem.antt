@@ -94,7 +94,8 @@ module _ (opening : Values) (t : Tables) (b : Observer) (now : Mirrored opening 
   abandon-stays : StaysMirrored opening b (Abandon o s) (abandon t o s)
   unfolding abandon
   abandon-stays =
-      unless-stays opening t b now (Abandon o s) (seatRefusal t o s checking) _ (λ e. let f = fine t o s false checking e in drop-stays opening t b now o s 3 f (f .phase-in))
+      unless-stays opening t b now (Abandon o s) (seatRefusal t o s checking) _
+      (λ e. let f = fine t o s false checking e in drop-stays opening t b now o s checking f (f .phase-in))
 
 -- ONE CALL
 -- where a Setup is answered ready, the values are the opening values from then on
