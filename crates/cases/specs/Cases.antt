@@ -3,7 +3,7 @@ use Prim.Native.Nat.{ℕ}
 use mathlib.Core.Path.{_≡_, ap}
 use mathlib.Core.List.{List, [], _∷_, _++_}
 use lib.ListN.{replicate}
-use Rattle.clock.specs.Word.{distanceSpan, timeSpan, top, lockBit, isLocked, distance, writeTime, readTime, joined, withLock, fresh, extended}
+use Rattle.clock.specs.Word.{distanceSpan, timeSpan, top, lockBit, isLocked, distance, writeTime, readTime, wordOf, withLock, fresh, extended}
 use Rattle.clock.specs.Cases.{wordCases, wordDue, word-cases}
 use Rattle.rules.specs.Tests.{scan, sumTo, oneOf, firstOf}
 use Rattle.rules.specs.Layout.{seatsLength, row, put, reads}
@@ -29,7 +29,7 @@ plan = 1 ∷ 1 ∷ (replicate 14 0 ++ (2 ∷ 2 ∷ replicate 14 0))
 
 -- what a worked case computes with, part by part: `unfolding computed` opens all of it
 unfoldable words : Unit {0}
-unfolding distanceSpan timeSpan top lockBit isLocked distance writeTime readTime joined withLock fresh extended
+unfolding distanceSpan timeSpan top lockBit isLocked distance writeTime readTime wordOf withLock fresh extended
 words = tt
 
 unfoldable tests : Unit {0}

@@ -5,7 +5,7 @@ use mathlib.Core.Bool.{true, false}
 use mathlib.Core.List.{List, [], _∷_}
 use Rattle.clock.specs.declared.Packed.{Packed}
 use Rattle.clock.specs.declared.Packed.the-variants.{Word, Refused}
-use Rattle.clock.specs.Word.{distanceSpan, timeSpan, top, lockBit, distance, writeTime, isLocked, joined, fresh, extended, packed, freshAt, extendedTo}
+use Rattle.clock.specs.Word.{distanceSpan, timeSpan, top, lockBit, distance, writeTime, isLocked, wordOf, fresh, extended, packed, freshAt, extendedTo}
 
 -- an answer in numbers: a word is itself, its write time and its distance; a refusal its number alone
 unfoldable pub told : Packed → List ℕ
@@ -29,7 +29,7 @@ wordDue =
     ∷ []
 
 pub word-cases : wordCases ≡ wordDue
-unfolding wordCases wordDue told distanceSpan timeSpan top lockBit isLocked distance writeTime joined fresh extended packed freshAt extendedTo
+unfolding wordCases wordDue told distanceSpan timeSpan top lockBit isLocked distance writeTime wordOf fresh extended packed freshAt extendedTo
 word-cases = refl
 
 -- the greatest distance and the greatest time are taken, one more is refused
@@ -60,5 +60,5 @@ limitDue =
     ∷ []
 
 pub limit-cases : limitCases ≡ limitDue
-unfolding limitCases limitDue told distanceSpan timeSpan top lockBit isLocked distance writeTime joined fresh extended packed freshAt extendedTo
+unfolding limitCases limitDue told distanceSpan timeSpan top lockBit isLocked distance writeTime wordOf fresh extended packed freshAt extendedTo
 limit-cases = refl

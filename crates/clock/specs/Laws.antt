@@ -7,7 +7,7 @@ use mathlib.Core.Path.{_≡_, refl, ap, _∙_}
 use mathlib.Core.Bool.{Bool, true, false, and-false}
 use borrow.Author.Tests.{eq-eqb, ne-eqb, lt-ltb, le-ltb, le-leb, lt-leb}
 use Rattle.clock.specs.declared.Packed.the-variants.{Word, Refused}
-use Rattle.clock.specs.Word.{distanceSpan, timeSpan, top, lockBit, isLocked, distance, writeTime, readTime, bit, joined, withLock}
+use Rattle.clock.specs.Word.{distanceSpan, timeSpan, top, lockBit, isLocked, distance, writeTime, readTime, bit, wordOf, withLock}
 use Rattle.clock.specs.Word.{fresh, extended, packed, freshAt, extendedTo}
 
 -- the ranges
@@ -39,17 +39,17 @@ pub bit-small : (b : Bool) → bit b ≤ 1
 bit-small true = omega arith
 bit-small false = omega arith
 
-pub word-isLocked : (b : Bool) (d t : ℕ) → d < distanceSpan → t ≤ top → isLocked (joined b d t) ≡ b
-unfolding isLocked joined lockBit distanceSpan timeSpan top
-word-isLocked true d t hd ht = eq-eqb (joined true d t / lockBit) 1 (omega arith)
-word-isLocked false d t hd ht = ne-eqb (joined false d t / lockBit) 1 (λ e. omega arith)
+pub word-isLocked : (b : Bool) (d t : ℕ) → d < distanceSpan → t ≤ top → isLocked (wordOf b d t) ≡ b
+unfolding isLocked wordOf lockBit distanceSpan timeSpan top
+word-isLocked true d t hd ht = eq-eqb (wordOf true d t / lockBit) 1 (omega arith)
+word-isLocked false d t hd ht = ne-eqb (wordOf false d t / lockBit) 1 (λ e. omega arith)
 
-pub word-distance : (b : Bool) (d t : ℕ) → d < distanceSpan → t ≤ top → distance (joined b d t) ≡ d
-unfolding distance joined lockBit distanceSpan timeSpan top
+pub word-distance : (b : Bool) (d t : ℕ) → d < distanceSpan → t ≤ top → distance (wordOf b d t) ≡ d
+unfolding distance wordOf lockBit distanceSpan timeSpan top
 word-distance b d t hd ht = omega arith
 
-pub word-is : (b : Bool) (d t : ℕ) → d < distanceSpan → t ≤ top → Is (joined b d t) b t (t + d)
-unfolding readTime writeTime distance joined lockBit distanceSpan timeSpan top
+pub word-is : (b : Bool) (d t : ℕ) → d < distanceSpan → t ≤ top → Is (wordOf b d t) b t (t + d)
+unfolding readTime writeTime distance wordOf lockBit distanceSpan timeSpan top
 word-is b d t hd ht =
     record {
       fits = omega (arith, bit-small b);
@@ -67,8 +67,8 @@ bit-lock w h = by (decLt w lockBit)
     by (yes l) = rw (ne-eqb (w / lockBit) 1 (λ e. omega arith)) (omega arith)
     by (no l) = rw (eq-eqb (w / lockBit) 1 (omega arith)) (omega arith)
 
-pub word-parts : (w : ℕ) → w < 2 ^ 64 → joined (isLocked w) (distance w) (writeTime w) ≡ w
-unfolding joined distance writeTime lockBit distanceSpan timeSpan
+pub word-parts : (w : ℕ) → w < 2 ^ 64 → wordOf (isLocked w) (distance w) (writeTime w) ≡ w
+unfolding wordOf distance writeTime lockBit distanceSpan timeSpan
 word-parts w h = omega (arith, bit-lock w h)
 
 -- two words of the same meaning are the same
@@ -100,7 +100,7 @@ withLock-back w h l = rw (withLock-twice, ← l) (withLock-same w h)
 pub fresh-is : (t : ℕ) → t ≤ top → Is (fresh t) false t t
 unfolding fresh distanceSpan
 fresh-is t h =
-    let p : Is (joined false 0 t) false t (t + 0) = word-is false 0 t (omega arith) h in
+    let p : Is (wordOf false 0 t) false t (t + 0) = word-is false 0 t (omega arith) h in
     record { fits = p .fits; is-locked = p .is-locked; is-written = p .is-written; is-read = omega arith }
 
 module _ (w t : ℕ) (lo : writeTime w ≤ t) (hi : t ≤ top) where
@@ -134,7 +134,7 @@ module _ (w t : ℕ) (lo : writeTime w ≤ t) (hi : t ≤ top) where
 
 -- the answers
 module _ (b : Bool) (d t : ℕ) where
-  pub packed-word : d < distanceSpan → t ≤ top → packed b d t ≡ Word (joined b d t)
+  pub packed-word : d < distanceSpan → t ≤ top → packed b d t ≡ Word (wordOf b d t)
   unfolding packed
   packed-word hd ht = simp (lt-ltb d distanceSpan hd, le-leb t top ht)
 

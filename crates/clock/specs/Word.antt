@@ -53,22 +53,22 @@ abbrev pub bit : Bool → ℕ
 bit true = 1
 bit false = 0
 
-unfoldable pub joined : Bool → ℕ → ℕ → ℕ
-joined locked d t = bit locked * lockBit + d * timeSpan + t
+unfoldable pub wordOf : Bool → ℕ → ℕ → ℕ
+wordOf locked d t = bit locked * lockBit + d * timeSpan + t
 
 -- the same word, locked or not
 unfoldable pub withLock : Bool → ℕ → ℕ
-withLock locked w = joined locked (distance w) (writeTime w)
+withLock locked w = wordOf locked (distance w) (writeTime w)
 
 -- unlocked, with write and read time t
 unfoldable pub fresh : ℕ → ℕ
-fresh t = joined false 0 t
+fresh t = wordOf false 0 t
 
 -- to a time not below the write time: d is the time less the write time; its low bits become the distance, the rest is added to the write time
 unfoldable pub extended : ℕ → ℕ → ℕ
 extended w t =
     let d : ℕ = t - writeTime w in
-    joined (isLocked w) (d % distanceSpan) (writeTime w + d / distanceSpan * distanceSpan)
+    wordOf (isLocked w) (d % distanceSpan) (writeTime w + d / distanceSpan * distanceSpan)
 
 -- the answers: a word, or refusal 2
 abbrev pub wordIf : Bool → ℕ → Packed
@@ -76,7 +76,7 @@ wordIf true w = Word w
 wordIf false w = Refused 2
 
 unfoldable pub packed : Bool → ℕ → ℕ → Packed
-packed locked d t = wordIf (ltb d distanceSpan && leb t top) (joined locked d t)
+packed locked d t = wordIf (ltb d distanceSpan && leb t top) (wordOf locked d t)
 
 unfoldable pub freshAt : ℕ → Packed
 freshAt t = wordIf (leb t top) (fresh t)

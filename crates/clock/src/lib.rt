@@ -1,7 +1,7 @@
 // The clock word: lock, distance and write time in 64 bits. This crate alone knows the bits.
 ghost use mathlib.Core.Path.{_≡_};
 ghost use Prim.Native.Nat.{_<_, _≤_};
-ghost use Rattle.clock.specs.Word.{distanceSpan, top, joined};
+ghost use Rattle.clock.specs.Word.{distanceSpan, top, wordOf};
 ghost use Rattle.clock.specs.Promises.{TopIs, LockIs, DistanceIs, WriteTimeIs, ReadTimeIs, PartsAre, PackedIs, LockedIs, UnlockedIs, FreshIs, ExtendedIs};
 
 // A word, or refusal 2 where the parts or the time are not to be had in one.
@@ -29,7 +29,7 @@ const LOCK: u64 = DISTANCE_SPAN * TIME_SPAN;
 // The word of parts that fit.
 fn join(locked: bool, distance: u64, written: u64) -> u64
     requires { ⌜ (distance < distanceSpan) × (written ≤ top) ⌝ }
-    ensures { λ r. ⌜ r ≡ joined locked distance written ⌝ }
+    ensures { λ r. ⌜ r ≡ wordOf locked distance written ⌝ }
 {
     (locked as u64) * LOCK + distance * TIME_SPAN + written
 }

@@ -55,7 +55,7 @@ module _ {g h : List ℕ} {ph p t : ℕ} (n : Nudged g h ph p t) where
   nudged-writeEntries = λ z. seg (nudged-write z) 0 (nudged-writes z)
 
 -- A ROW WITH A NEW READ ENTRY has that after the others, and its write entries
-module _ {g h : List ℕ} {item value wrote upTo : ℕ} (n : WithRead g h item value wrote upTo) (few : reads g < mostReads) where
+module _ {g h : List ℕ} {item value keptW keptR : ℕ} (n : WithRead g h item value keptW keptR) (few : reads g < mostReads) where
   noted-read : (i : ℕ) → i < reads g → readAt h i ≡ readAt g i
   noted-read i l = read-same g h i i (n .before (readItemAt i) (omega arith) (omega arith)) (n .before (readValueAt i) (omega arith) (omega arith))
 

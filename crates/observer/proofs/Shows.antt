@@ -38,10 +38,10 @@ module _ (g : List ℕ) (x : Seen) (z : Shows g x) (item : ℕ) where
   unfolding onRead
   read-known v e = rw e
 
-  pub read-shows : (h : List ℕ) (v wrote upTo : ℕ) → WithRead g h item v wrote upTo → reads g < mostReads → isKnown x item ≡ false →
+  pub read-shows : (h : List ℕ) (v keptW keptR : ℕ) → WithRead g h item v keptW keptR → reads g < mostReads → isKnown x item ≡ false →
       Shows h (onRead x item (Value v))
   unfolding onRead
-  read-shows h v wrote upTo n few e =
+  read-shows h v keptW keptR n few e =
       rw e
       (record {
         is-reads = noted-firstReads n few ∙ ap (λ (l : List FirstRead). l ++ (record { item = item; value = v } ∷ [])) (z .is-reads);

@@ -171,10 +171,10 @@ module _ (t : Tables) (s : ℕ) (k : InOrder t) (u : Used (length (t .words)) (r
             (λ q. let f = last j l (eqb-false j n q) in rw (was i (omega arith), was j f) (e .distinct i j a f));
         ascending = λ i j a l. rw (w i, w j) (e .ascending i j a (omega arith));
         ordered = λ i l.
-            by (eqb i n) (λ q. rw (eqb-true i n q, z .has-wrote, z .has-upTo) (write≤read word))
+            by (eqb i n) (λ q. rw (eqb-true i n q, z .has-keptWrite, z .has-keptRead) (write≤read word))
             (λ q. let j = last i l (eqb-false i n q) in rw (kw i j, kr i j) (e .ordered i j));
         kept-timely = λ i l.
-            by (eqb i n) (λ q. rw (eqb-true i n q, z .has-upTo, ew) (k .timely y inside))
+            by (eqb i n) (λ q. rw (eqb-true i n q, z .has-keptRead, ew) (k .timely y inside))
             (λ q. let j = last i l (eqb-false i n q) in rw (kr i j) (e .kept-timely i j));
         no-read = λ f a l. z .behind f (omega arith) ∙ e .no-read f (omega arith) l;
         no-write = λ f a l. z .behind f (omega arith) ∙ e .no-write f (omega arith) l;

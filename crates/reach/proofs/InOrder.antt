@@ -20,7 +20,7 @@ abbrev pub Zero : List ℕ → Type 0
 Zero g = (f : ℕ) → f < rowWidth → getD g f 0 ≡ 0
 
 -- phase, owner, position and time of a row in use
-pub record Head (g : List ℕ) : Type 0 where
+pub record HeadInOrder (g : List ℕ) : Type 0 where
   pub used : 1 ≤ phase g
   pub phase-in : phase g ≤ 4
   pub owner-in : owner g < owners
@@ -45,7 +45,7 @@ pub record Entries (n : ℕ) (g : List ℕ) : Type 0 where
   pub no-write : (f : ℕ) → writeItemAt (writes g) ≤ f → f < rowWidth → getD g f 0 ≡ 0
 
 pub record Used (n : ℕ) (g : List ℕ) : Type 0 where
-  pub head : Head g
+  pub head : HeadInOrder g
   pub entries : Entries n g
   pub not-below : 3 ≤ phase g → (i : ℕ) → i < reads g → keptWrite g i ≤ time g
 

@@ -31,7 +31,7 @@ use Rattle.observer.proofs.Entries.{writeAt, writeEntries, nudged-at, nudged-wr
 use Rattle.reach.specs.Invariants.{lockFrom, lockTo}
 use Rattle.reach.proofs.Tests.{by, or-true, or-false}
 use Rattle.reach.proofs.Count.{one, one-le}
-use Rattle.reach.proofs.InOrder.{Head, Used, locks, lockCount}
+use Rattle.reach.proofs.InOrder.{HeadInOrder, Used, locks, lockCount}
 use Rattle.reach.proofs.Script.{says-locked, says-timed, says-checked, says-sealed, says-stored}
 use Rattle.reach.proofs.Named.{named-yes, named-no, named-same, locks-same, locks-none}
 use Rattle.reach.proofs.Rows.{nudged-owner, nudged-head, used-nudged, row-used, from-zero, from-four, to-early, to-late, steps-early}
@@ -60,7 +60,7 @@ module _ (t : Tables) (s : ℕ) (size : length (t .seats) ≡ seatsLength) (smal
 
   -- a step whose row is nudged
   nudge-step : (values words seats h : List ℕ) (a : Answer) {ph p tm : ℕ} → Becomes (t .seats) seats s h → Nudged g h ph p tm →
-      length values ≡ length (t .values) → length words ≡ length (t .words) → Head h → (3 ≤ ph → (i : ℕ) → i < reads g → keptWrite g i ≤ tm) →
+      length values ≡ length (t .values) → length words ≡ length (t .words) → HeadInOrder h → (3 ≤ ph → (i : ℕ) → i < reads g → keptWrite g i ≤ tm) →
       Follows (t .words) words g h → StaysTimely (t .words) words → Tells onAdvance g h a → Step t s onAdvance (answered a (tables values words seats))
   nudge-step values words seats h a b n ev ew hd k lk tk told =
       let us = u .head .used in
@@ -149,12 +149,12 @@ module _ (t : Tables) (s : ℕ) (size : length (t .seats) ≡ seatsLength) (smal
       (λ e. rw e (lets-go t s onAdvance size small u (Aborted 21) (aborts 21) (omega arith)))
       (λ e. rw e (take-lock p b (writeItem g (position g)) _ refl refl e))
 
-  timed-ok : phase g ≤ 2 → position g ≡ writes g → (tc : ℕ) → ((i : ℕ) → i < reads g → keptWrite g i ≤ tc) → tc ≤ top →
-      Step t s onAdvance (answered (Timed tc) (withSeats t (put (moved (t .seats) s 3 0) s timeAt tc)))
+  timed-ok : phase g ≤ 2 → position g ≡ writes g → (due : ℕ) → ((i : ℕ) → i < reads g → keptWrite g i ≤ due) → due ≤ top →
+      Step t s onAdvance (answered (Timed due) (withSeats t (put (moved (t .seats) s 3 0) s timeAt due)))
   unfolding onAdvance
-  timed-ok p e tc kept late =
-      let h : List ℕ = set (movedRow g 3 0) timeAt tc in
-      let n = nudge-time (nudge-position (nudge-phase whole 3) 0) tc in
+  timed-ok p e due kept late =
+      let h : List ℕ = set (movedRow g 3 0) timeAt due in
+      let n = nudge-time (nudge-position (nudge-phase whole 3) 0) due in
       let m = nudged-head n in
       let ho = u .head .owner-in in
       let hu = u .head .used in
@@ -162,23 +162,23 @@ module _ (t : Tables) (s : ℕ) (size : length (t .seats) ≡ seatsLength) (smal
       let ph = steps-three h (n .is-phase) in
       let from = from-zero h (omega arith) ∙ sym (from-zero g (omega arith)) in
       let same = same-locks h n from (to-late h (omega arith) ∙ nudged-writes n ∙ sym e ∙ sym (to-early g p)) in
-      nudge-step (t .values) (t .words) (put (moved (t .seats) s 3 0) s timeAt tc) h (Timed tc)
-      (then-put timeAt tc (omega arith) (becomes-moved (t .seats) s 3 0)) n refl refl
+      nudge-step (t .values) (t .words) (put (moved (t .seats) s 3 0) s timeAt due) h (Timed due)
+      (then-put timeAt due (omega arith) (becomes-moved (t .seats) s 3 0)) n refl refl
       (omega arith)
       (λ q. kept)
       (follows-same (t .words) h (λ x l. refl) same)
       (λ x l le. le)
-      (tells-more (Timed tc) _ _ tc _ n (says-timed (omega arith) refl) (omega arith) (not-four h (omega arith) (omega arith)) same refl
+      (tells-more (Timed due) _ _ due _ n (says-timed (omega arith) refl) (omega arith) (not-four h (omega arith) (omega arith)) same refl
       (none-left h (omega arith) (omega arith)) refl)
 
   time-ok : phase g ≤ 2 → writes g ≤ position g → Step t s onAdvance (timeStep t s)
   unfolding timeStep
   time-ok p b =
-      let tc : ℕ = commitTime (t .words) g in
+      let due : ℕ = commitTime (t .words) g in
       let e : position g ≡ writes g = (let q = early-fits g (u .head) p in omega arith) in
-      by (ltb top tc)
+      by (ltb top due)
       (λ k. rw k (lets-go t s onAdvance size small u (Aborted 24) (aborts 24) (omega arith)))
-      (λ k. rw k (timed-ok p e tc (commit-kept (t .words) g) (ltb-false top tc k)))
+      (λ k. rw k (timed-ok p e due (commit-kept (t .words) g) (ltb-false top due k)))
 
   -- PHASE 3
   pass-ok : phase g ≡ 3 → position g < reads g → (words : List ℕ) → length words ≡ length (t .words) →

@@ -17,7 +17,7 @@ use Rattle.rows.specs.Changed.{Nudged}
 use Rattle.observer.proofs.Entries.{nudged-at, nudged-reads, nudged-writes}
 use Rattle.reach.specs.Invariants.{lockFrom, lockTo}
 use Rattle.reach.proofs.Tests.{by, only-where, all-none}
-use Rattle.reach.proofs.InOrder.{Zero, Head, Entries, Used, Row, stepsTaken}
+use Rattle.reach.proofs.InOrder.{Zero, HeadInOrder, Entries, Used, Row, stepsTaken}
 
 -- A NUDGED ROW keeps its entries
 module _ {g h : List ℕ} {ph p t : ℕ} (z : Nudged g h ph p t) where
@@ -45,7 +45,7 @@ module _ {g h : List ℕ} {ph p t : ℕ} (z : Nudged g h ph p t) where
         no-write = λ f a l. nudged-at z f (omega arith) ∙ k .no-write f (omega arith) l;
       }
 
-  pub used-nudged : {n : ℕ} → Used n g → Head h → (3 ≤ ph → (i : ℕ) → i < reads g → keptWrite g i ≤ t) → Used n h
+  pub used-nudged : {n : ℕ} → Used n g → HeadInOrder h → (3 ≤ ph → (i : ℕ) → i < reads g → keptWrite g i ≤ t) → Used n h
   used-nudged u hd k =
       let r = nudged-reads z in
       let e = z .is-phase in
@@ -63,7 +63,7 @@ pub row-zero : (n : ℕ) {g : List ℕ} → Zero g → Row n g
 row-zero n z = record { free = λ e. z; in-use = λ d. absurd (d (z phaseAt (omega arith))) }
 
 -- A ROW IN ORDER IS NOT DAMAGED
-placed-well : (g : List ℕ) → Head g → misplaced (phase g) (position g) (reads g) (writes g) ≡ false
+placed-well : (g : List ℕ) → HeadInOrder g → misplaced (phase g) (position g) (reads g) (writes g) ≡ false
 unfolding misplaced
 placed-well g h =
     let hu = h .used in
@@ -89,7 +89,7 @@ good-write : (g : List ℕ) (n : ℕ) → Used n g → (i : ℕ) → i < writes 
 unfolding badWrite
 good-write g n u i l = lt-leb n (writeItem g i) (u .entries .write-in i l)
 
-good-time : (g : List ℕ) → Head g → late (phase g) (time g) ≡ false
+good-time : (g : List ℕ) → HeadInOrder g → late (phase g) (time g) ≡ false
 unfolding late
 good-time g h = only-where (leb 3 (phase g)) (ltb top (time g)) (λ e. le-ltb top (time g) (h .timely))
 
@@ -151,7 +151,7 @@ module _ (g : List ℕ) where
   unfolding stepsTaken
   steps-four h = rw (lt-leb (phase g) 2 (omega arith), ne-eqb (phase g) 3 (omega arith))
 
-  pub early-fits : Head g → phase g ≤ 2 → position g ≤ writes g
+  pub early-fits : HeadInOrder g → phase g ≤ 2 → position g ≤ writes g
   early-fits h p =
       let u = h .used in
       by (eqb (phase g) 1)

@@ -116,40 +116,40 @@ module _ {g h : List ℕ} {ph p t : ℕ} (n : Nudged g h ph p t) (v : ℕ) where
 
 -- A ROW WITH A NEW READ ENTRY, after those it had
 abbrev pub notedRow : List ℕ → ℕ → ℕ → ℕ → ℕ → List ℕ
-notedRow g item value wrote upTo =
+notedRow g item value keptW keptR =
     let n : ℕ = reads g in
-    set (set (set (set (set g (readItemAt n) item) (readValueAt n) value) (keptWriteAt n) wrote) (keptReadAt n) upTo) readsAt (n + 1)
+    set (set (set (set (set g (readItemAt n) item) (readValueAt n) value) (keptWriteAt n) keptW) (keptReadAt n) keptR) readsAt (n + 1)
 
-pub record WithRead (g h : List ℕ) (item value wrote upTo : ℕ) : Type 0 where
+pub record WithRead (g h : List ℕ) (item value keptW keptR : ℕ) : Type 0 where
   pub size : length h ≡ rowWidth
   pub count : reads h ≡ reads g + 1
   pub has-item : readItem h (reads g) ≡ item
   pub has-value : readValue h (reads g) ≡ value
-  pub has-wrote : keptWrite h (reads g) ≡ wrote
-  pub has-upTo : keptRead h (reads g) ≡ upTo
+  pub has-keptWrite : keptWrite h (reads g) ≡ keptW
+  pub has-keptRead : keptRead h (reads g) ≡ keptR
   pub before : (f : ℕ) → f ≢ readsAt → f < readItemAt (reads g) → getD h f 0 ≡ getD g f 0
   pub behind : (f : ℕ) → readItemAt (reads g + 1) ≤ f → getD h f 0 ≡ getD g f 0
 
-pub noted-row : (g : List ℕ) (item value wrote upTo : ℕ) → length g ≡ rowWidth → readItemAt (reads g + 1) ≤ rowWidth →
-    WithRead g (notedRow g item value wrote upTo) item value wrote upTo
-noted-row g item value wrote upTo size room =
+pub noted-row : (g : List ℕ) (item value keptW keptR : ℕ) → length g ≡ rowWidth → readItemAt (reads g + 1) ≤ rowWidth →
+    WithRead g (notedRow g item value keptW keptR) item value keptW keptR
+noted-row g item value keptW keptR size room =
     record {
       size = s5;
       count = getD-set-same g4 readsAt (n + 1) 0 (omega (arith, s4));
       has-item =
           head (readItemAt n) (omega arith)
-          ∙ getD-set-other g3 (keptReadAt n) (readItemAt n) upTo 0 (omega arith)
-          ∙ getD-set-other g2 (keptWriteAt n) (readItemAt n) wrote 0 (omega arith)
+          ∙ getD-set-other g3 (keptReadAt n) (readItemAt n) keptR 0 (omega arith)
+          ∙ getD-set-other g2 (keptWriteAt n) (readItemAt n) keptW 0 (omega arith)
           ∙ getD-set-other g1 (readValueAt n) (readItemAt n) value 0 (omega arith)
           ∙ getD-set-same g (readItemAt n) item 0 (omega arith);
       has-value =
           head (readValueAt n) (omega arith)
-          ∙ getD-set-other g3 (keptReadAt n) (readValueAt n) upTo 0 (omega arith)
-          ∙ getD-set-other g2 (keptWriteAt n) (readValueAt n) wrote 0 (omega arith)
+          ∙ getD-set-other g3 (keptReadAt n) (readValueAt n) keptR 0 (omega arith)
+          ∙ getD-set-other g2 (keptWriteAt n) (readValueAt n) keptW 0 (omega arith)
           ∙ getD-set-same g1 (readValueAt n) value 0 (omega (arith, s1));
-      has-wrote = head (keptWriteAt n) (omega arith) ∙ getD-set-other g3 (keptReadAt n) (keptWriteAt n) upTo 0 (omega arith)
-          ∙ getD-set-same g2 (keptWriteAt n) wrote 0 (omega (arith, s2));
-      has-upTo = head (keptReadAt n) (omega arith) ∙ getD-set-same g3 (keptReadAt n) upTo 0 (omega (arith, s3));
+      has-keptWrite = head (keptWriteAt n) (omega arith) ∙ getD-set-other g3 (keptReadAt n) (keptWriteAt n) keptR 0 (omega arith)
+          ∙ getD-set-same g2 (keptWriteAt n) keptW 0 (omega (arith, s2));
+      has-keptRead = head (keptReadAt n) (omega arith) ∙ getD-set-same g3 (keptReadAt n) keptR 0 (omega (arith, s3));
       before = λ f d l. rest f d (omega arith) (omega arith) (omega arith) (omega arith);
       behind = λ f l. rest f (omega arith) (omega arith) (omega arith) (omega arith) (omega arith);
     }
@@ -164,10 +164,10 @@ noted-row g item value wrote upTo size room =
     g2 = set g1 (readValueAt n) value
 
     g3 : List ℕ
-    g3 = set g2 (keptWriteAt n) wrote
+    g3 = set g2 (keptWriteAt n) keptW
 
     g4 : List ℕ
-    g4 = set g3 (keptReadAt n) upTo
+    g4 = set g3 (keptReadAt n) keptR
 
     s1 : length g1 ≡ rowWidth
     s1 = length-set g (readItemAt n) item ∙ size
@@ -176,10 +176,10 @@ noted-row g item value wrote upTo size room =
     s2 = length-set g1 (readValueAt n) value ∙ s1
 
     s3 : length g3 ≡ rowWidth
-    s3 = length-set g2 (keptWriteAt n) wrote ∙ s2
+    s3 = length-set g2 (keptWriteAt n) keptW ∙ s2
 
     s4 : length g4 ≡ rowWidth
-    s4 = length-set g3 (keptReadAt n) upTo ∙ s3
+    s4 = length-set g3 (keptReadAt n) keptR ∙ s3
 
     s5 : length (set g4 readsAt (n + 1)) ≡ rowWidth
     s5 = length-set g4 readsAt (n + 1) ∙ s4
@@ -189,7 +189,7 @@ noted-row g item value wrote upTo size room =
 
     rest : (f : ℕ) → f ≢ readsAt → f ≢ readItemAt n → f ≢ readValueAt n → f ≢ keptWriteAt n → f ≢ keptReadAt n → getD (set g4 readsAt (n + 1)) f 0 ≡ getD g f 0
     rest f d a b c e =
-        head f d ∙ getD-set-other g3 (keptReadAt n) f upTo 0 e ∙ getD-set-other g2 (keptWriteAt n) f wrote 0 c
+        head f d ∙ getD-set-other g3 (keptReadAt n) f keptR 0 e ∙ getD-set-other g2 (keptWriteAt n) f keptW 0 c
         ∙ getD-set-other g1 (readValueAt n) f value 0 b ∙ getD-set-other g (readItemAt n) f item 0 a
 
 -- A SLIDE: the last k of a row's numbers below place e, each moved up by w places

@@ -111,7 +111,7 @@ module _ (opening : Values) (t : Tables) (b : Observer) (now : Mirrored opening 
               (becomes-put (t .seats) s positionAt (p + 1) (omega arith)) seenChecked viewed (λ _. seen-on);
         }
 
-    extend-mirrored : writeTime word ≡ e .wrote → readTime word < time g → isLocked word ≡ false →
+    extend-mirrored : writeTime word ≡ e .keptWrite → readTime word < time g → isLocked word ≡ false →
         Mirrored opening (tables (t .values) (stretched (t .words) g) (put (t .seats) s positionAt (position g + 1))) (seeing b s seenChecked)
     unfolding stretched onAdvance
     extend-mirrored same early unlocked =
@@ -155,8 +155,8 @@ module _ (opening : Values) (t : Tables) (b : Observer) (now : Mirrored opening 
     check-stays : StaysMirrored opening b (Advance o s) (ruled t s (judged t s))
     unfolding ruled judged isOwn verdict byWord isBlocked passed passedTo observe onAdvance
     check-stays =
-        cond-ind Q (leb (time g) (e .upTo)) (λ a. pass-mirrored (spanned (omega (arith, keyed, leb-true (time g) (e .upTo) a))))
-        (λ _. cond-ind Q (not (eqb (writeTime word) (e .wrote))) (λ _. abort-stays opening t b now o s last fi 22 (omega arith))
+        cond-ind Q (leb (time g) (e .keptRead)) (λ a. pass-mirrored (spanned (omega (arith, keyed, leb-true (time g) (e .keptRead) a))))
+        (λ _. cond-ind Q (not (eqb (writeTime word) (e .keptWrite))) (λ _. abort-stays opening t b now o s last fi 22 (omega arith))
         (λ a. let same = eqb-true _ _ (not-false _ a) in
         cond-ind Q (ltb (writeOf g (e .told .item)) (writes g)) (λ c. pass-mirrored (ours (shown .is-wrote ∙ same) (own c)))
         (λ _. cond-ind Q (isLocked word && leb (readTime word) (time g)) (λ _. abort-stays opening t b now o s last fi 23 (omega arith))

@@ -8,7 +8,7 @@ use native.Mathlib.Omega.{arith}
 use Rattle.observer.specs.Observer.{Transaction}
 use Rattle.serial.specs.Statement.{Values, valuesAfterAll, Right}
 use Rattle.serial.specs.Order.{Sorted}
-use Rattle.serial.proofs.Timeline.{upto, upto-all}
+use Rattle.serial.proofs.Timeline.{runTo, runTo-all}
 use Rattle.serial.proofs.Protocol.{Due, State, free, StoreLeft, none-some, val, Inv}
 use Rattle.serial.proofs.Growth.{due-left}
 
@@ -22,7 +22,7 @@ begin start opening =
     }
 
 pub begin-inv : (start : ℕ) (opening : Values) → Inv opening (begin start opening)
-unfolding Sorted Right upto
+unfolding Sorted Right runTo
 begin-inv start opening =
     record {
       sorted = tt;
@@ -57,7 +57,7 @@ last-is (T ∷ S) U i =
 pub inv-final : (opening : Values) (σ : State) → Inv opening σ → ((s item : ℕ) → StoreLeft (σ .seat s) item → ⊥) → (item : ℕ) →
     valuesAfterAll (σ .order) opening item ≡ σ .version item .value
 inv-final opening σ h n item =
-    sym (upto-all u (σ .order) opening item (λ U i. let l = last-is (σ .order) U i in omega arith)) ∙ go (σ .version item .due) refl
+    sym (runTo-all u (σ .order) opening item (λ U i. let l = last-is (σ .order) U i in omega arith)) ∙ go (σ .version item .due) refl
   where
     u : ℕ
     u = max (σ .version item .from) (last (σ .order))

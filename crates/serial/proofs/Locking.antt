@@ -76,17 +76,17 @@ module _ (opening : Values) (t : Tables) (b : Observer) (now : Mirrored opening 
 
   -- THE TIME, all locks held
   module _ (all : position g ≡ writes g) where
-    abbrev tc : ℕ
-    tc = commitTime (t .words) g
+    abbrev due : ℕ
+    due = commitTime (t .words) g
 
     abbrev stamp : Stamp
-    stamp = record { key = tc; time = tc }
+    stamp = record { key = due; time = due }
 
     fits : (e : ReadEntry) → In e (readEntries g) → Fits (now .σ .version (e .told .item)) stamp e
     fits e i =
         let z = seg-in (entryAt g) (reads g) 0 e i in
         let c = commit-kept (t .words) g (z .0) (omega (arith, z .2)) in
-        let kept : e .wrote ≤ tc = rw (z .3) c in
+        let kept : e .keptWrite ≤ due = rw (z .3) c in
         record { current = λ q. omega (arith, now .inv .versions (e .told .item) .wrote-low); not-early = kept }
 
     below : (w : WriteEntry) → In w (writeEntries g) → Below (now .σ .version (w .item)) stamp
@@ -99,19 +99,19 @@ module _ (opening : Values) (t : Tables) (b : Observer) (now : Mirrored opening 
         let e = write≤read (getD (t .words) (writeItem g (z .0)) 0) in
         rw (z .3) (record { key = omega (arith, m .is-upTo); time = omega (arith, m .is-wrote) })
 
-    time-mirrored : Mirrored opening (tables (t .values) (t .words) (put (moved (t .seats) s 3 0) s timeAt tc)) (seeing b s (onAdvance (b .seats s) (Timed tc)))
+    time-mirrored : Mirrored opening (tables (t .values) (t .words) (put (moved (t .seats) s 3 0) s timeAt due)) (seeing b s (onAdvance (b .seats s) (Timed due)))
     unfolding seatOf seg onAdvance
     time-mirrored =
-        let x = onAdvance (b .seats s) (Timed tc) in
-        let n = nudge-time (nudge-position (nudge-phase (not-nudged g (fine-row fi)) 3) 0) tc in
+        let x = onAdvance (b .seats s) (Timed due) in
+        let n = nudge-time (nudge-position (nudge-phase (not-nudged g (fine-row fi)) 3) 0) due in
         record {
           σ = reseat (now .σ) s (checking stamp [] (readEntries g) (writeEntries g));
           inv = times-inv opening (now .σ) (now .inv) s stamp (readEntries g) (writeEntries g) (is-working ∙ rw all) refl fits below;
           agree =
-              agree-seeing (now .agree) (tables (t .values) (t .words) (put (moved (t .seats) s 3 0) s timeAt tc)) (now .σ .version) s _
-              (set (movedRow g 3 0) timeAt tc) refl refl (now .agree .shown)
-              (then-put timeAt tc (omega arith) (becomes-moved (t .seats) s 3 0)) x
-              ((λ i. checking stamp [] (sym (seg-whole (entryAt g) (reads g)) i) (writeEntries g)) ∙ sym (nudged-view n tc))
+              agree-seeing (now .agree) (tables (t .values) (t .words) (put (moved (t .seats) s 3 0) s timeAt due)) (now .σ .version) s _
+              (set (movedRow g 3 0) timeAt due) refl refl (now .agree .shown)
+              (then-put timeAt due (omega arith) (becomes-moved (t .seats) s 3 0)) x
+              ((λ i. checking stamp [] (sym (seg-whole (entryAt g) (reads g)) i) (writeEntries g)) ∙ sym (nudged-view n due))
               (λ _. seen-nudged n (b .seats s) x (now .agree .seen s (fi .used)) refl refl (λ q. absurd (omega arith)));
         }
 

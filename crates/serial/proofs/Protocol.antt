@@ -10,7 +10,7 @@ use native.Mathlib.Omega.{arith}
 use Rattle.observer.specs.Observer.{FirstRead, WriteEntry, Transaction}
 use Rattle.serial.specs.Statement.{Values, applied, Right}
 use Rattle.serial.specs.Order.{Sorted}
-use Rattle.serial.proofs.Timeline.{Named, Distinct, upto}
+use Rattle.serial.proofs.Timeline.{Named, Distinct, runTo}
 
 -- an option is none or some, and of one thing
 pub none-some : {A : Type 0} (o : Option A) (a : A) → o ≡ none → o ≡ some a → ⊥
@@ -45,8 +45,8 @@ pub record Version : Type 0 where
 -- a read entry: what its reader was told, and the kept times
 pub record ReadEntry : Type 0 where
   pub told : FirstRead
-  pub wrote : ℕ
-  pub upTo : ℕ
+  pub keptWrite : ℕ
+  pub keptRead : ℕ
 
 pub data Seat : Type 0 where
   free : Seat
@@ -102,8 +102,8 @@ pub record ByTime (S : List Transaction) (seatOf : ℕ → Seat) : Type 0 where
 
 -- a read entry that may pass at a stamp
 pub record Fits (x : Version) (t : Stamp) (e : ReadEntry) : Type 0 where
-  pub current : x .wrote ≡ e .wrote → x .from ≤ t .key
-  pub not-early : e .wrote ≤ t .key
+  pub current : x .wrote ≡ e .keptWrite → x .from ≤ t .key
+  pub not-early : e .keptWrite ≤ t .key
 
 -- a version that may be stored over at a stamp
 pub record Below (x : Version) (t : Stamp) : Type 0 where
@@ -113,7 +113,7 @@ pub record Below (x : Version) (t : Stamp) : Type 0 where
 module _ (opening : Values) where
   -- a record's value in the serial run, after those with keys up to u
   abbrev pub val : List Transaction → ℕ → ℕ → ℕ
-  val S item u = upto u S item (opening item)
+  val S item u = runTo u S item (opening item)
 
   -- WHAT HOLDS of a version: of its numbers, of the run's values, and of those who touched it
   pub record VersionOk (S : List Transaction) (item : ℕ) (x : Version) : Type 0 where
@@ -129,10 +129,10 @@ module _ (opening : Values) where
 
   -- of a read entry that is not checked yet
   pub record EntryOk (S : List Transaction) (x : Version) (e : ReadEntry) : Type 0 where
-    pub older : e .wrote ≤ x .wrote
-    pub shorter : e .upTo ≤ x .upTo
-    pub span : (u : ℕ) → e .wrote ≤ u → u ≤ e .upTo → val S (e .told .item) u ≡ e .told .value
-    pub same : x .wrote ≡ e .wrote → x .value ≡ e .told .value
+    pub older : e .keptWrite ≤ x .wrote
+    pub shorter : e .keptRead ≤ x .upTo
+    pub span : (u : ℕ) → e .keptWrite ≤ u → u ≤ e .keptRead → val S (e .told .item) u ≡ e .told .value
+    pub same : x .wrote ≡ e .keptWrite → x .value ≡ e .told .value
 
   -- of one that has passed: what a check establishes, and all that sealing needs
   pub record Covered (S : List Transaction) (x : Version) (key : ℕ) (ws : List WriteEntry) (e : ReadEntry) : Type 0 where

@@ -9,7 +9,7 @@ use Rattle.observer.specs.Observer.{FirstRead, WriteEntry, Transaction, changed
 use Rattle.serial.specs.Statement.{Values, applied, Right, ranked}
 use Rattle.serial.specs.Order.{Sorted}
 use Rattle.serial.proofs.Order.{in-ranked, sorted-ranked}
-use Rattle.serial.proofs.Timeline.{Named, Absent, find, distinct-same, written-named, upto-below, upto-absent, upto-above, right-ranked}
+use Rattle.serial.proofs.Timeline.{Named, Absent, find, distinct-same, written-named, runTo-below, runTo-absent, runTo-above, right-ranked}
 use Rattle.serial.proofs.Protocol.{Stamp, Due, Version, ReadEntry, State, checking, storing, closed, Below, none-some, some-same}
 use Rattle.serial.proofs.Protocol.{val, VersionOk, CheckingOk, Inv}
 use Rattle.serial.proofs.Growth.{Grows, Stays, stays-other, step-inv, keep-holds}
@@ -52,18 +52,18 @@ module _ (opening : Values) (S : List Transaction) (c : ℕ → Version) (so : S
 
   -- the run's values: below its key, from its key on, and of what it does not write
   run-below : (item u : ℕ) → u < t .key → val opening (ranked T S) item u ≡ val opening S item u
-  run-below item u p = upto-below T S u item (opening item) p
+  run-below item u p = runTo-below T S u item (opening item) p
 
   run-above : (item : ℕ) (p : Named item ws) (u : ℕ) → t .key ≤ u → val opening (ranked T S) item u ≡ applied (p .0) (c item .value)
   run-above item p u q =
       let b = named-below item p .key in
       let m = ve item .range in
-      upto-above T S u item (opening item) q so (λ U i l w j e. let z = named-early item p (U .key) (ve item .writers U i w j e) in omega arith)
+      runTo-above T S u item (opening item) q so (λ U i l w j e. let z = named-early item p (U .key) (ve item .writers U i w j e) in omega arith)
       ∙ written-named ws (p .0) item (val opening S item u) (h .distinct) (p .1) (p .2)
       ∙ ap (applied (p .0)) (quiet opening S item (c item) (ve item) (named-idle item p) u (omega arith))
 
   run-aside : (item : ℕ) → Absent item ws → (u : ℕ) → val opening (ranked T S) item u ≡ val opening S item u
-  run-aside item a u = upto-absent T S u item (opening item) a
+  run-aside item a u = runTo-absent T S u item (opening item) a
 
   -- ITS READS have passed
   read-closed : (item : ℕ) → Absent item ws → (e : FirstRead) → In e (T .reads) → e .item ≡ item → t .key ≤ closed (c item)

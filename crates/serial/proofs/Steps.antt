@@ -27,14 +27,14 @@ reversion σ item x = record { order = σ .order; version = changed item x (σ .
 
 -- the read entry that a version gives
 abbrev pub entryOf : ℕ → Version → ReadEntry
-entryOf item x = record { told = record { item = item; value = x .value }; wrote = x .wrote; upTo = x .upTo }
+entryOf item x = record { told = record { item = item; value = x .value }; keptWrite = x .wrote; keptRead = x .upTo }
 
 -- WHY A READ ENTRY PASSES with no change to the version: the kept read time reaches the key; or the version is still the one that was read,
 -- and the seat itself writes the record or the version's range reaches the key
 pub data Passes (x : Version) (t : Stamp) (ws : List WriteEntry) (e : ReadEntry) : Type 0 where
-  spanned : t .key ≤ e .upTo → Passes x t ws e
-  ours : x .wrote ≡ e .wrote → Named (e .told .item) ws → Passes x t ws e
-  reached : x .wrote ≡ e .wrote → t .key ≤ x .upTo → Passes x t ws e
+  spanned : t .key ≤ e .keptRead → Passes x t ws e
+  ours : x .wrote ≡ e .keptWrite → Named (e .told .item) ws → Passes x t ws e
+  reached : x .wrote ≡ e .keptWrite → t .key ≤ x .upTo → Passes x t ws e
 
 module _ (opening : Values) where
   -- THE CHECK'S FACT
@@ -224,7 +224,7 @@ module _ (opening : Values) where
   -- CHECK that extends, one step: the version is still the one that was read and nobody holds it; `wrote` is its write time from now on
   pub renews-inv : (σ : State) → Inv opening σ → (s : ℕ) (t : Stamp) (ok rs : List ReadEntry) (ws : List WriteEntry) (e : ReadEntry) (wrote : ℕ) →
       σ .seat s ≡ checking t ok (e ∷ rs) ws →
-      σ .version (e .told .item) .holder ≡ none → σ .version (e .told .item) .wrote ≡ e .wrote → e .wrote ≤ wrote → σ .version (e .told .item) .upTo ≤ t .key →
+      σ .version (e .told .item) .holder ≡ none → σ .version (e .told .item) .wrote ≡ e .keptWrite → e .keptWrite ≤ wrote → σ .version (e .told .item) .upTo ≤ t .key →
       Inv opening (reseat (reversion σ (e .told .item) (reaching wrote (t .key) (σ .version (e .told .item)))) s (checking t (ok ++ (e ∷ [])) rs ws))
   renews-inv σ h s t ok rs ws e wrote q o a b c =
       let item = e .told .item in

@@ -1,4 +1,4 @@
--- A record's value along the serial run: `upto u S item v` is what the transactions of S with keys up to u make of v.
+-- A record's value along the serial run: `runTo u S item v` is what the transactions of S with keys up to u make of v.
 -- The laws say what placing one more transaction changes: nothing below its key, nothing of records that it does not write, and from its key on
 -- its own effect, where no later one writes the record.
 use Prim.Native.Nat.{ℕ, _≤_, _<_}
@@ -67,72 +67,72 @@ written-named (z ∷ ws) w item v d (there i) q =
     rw (ne-eqb (z .item) item (λ e. d .0 w i (cc))) (written-named ws w item v (d .1) i q)
 
 -- A RECORD'S VALUE after a transaction if its key is up to u, and after the transactions with keys up to u
-abbrev oneUpto : ℕ → Transaction → ℕ → ℕ → ℕ
-oneUpto u T item v = cond (leb (T .key) u) (written (T .writes) item v) v
+abbrev oneTo : ℕ → Transaction → ℕ → ℕ → ℕ
+oneTo u T item v = cond (leb (T .key) u) (written (T .writes) item v) v
 
-unfoldable pub upto : ℕ → List Transaction → ℕ → ℕ → ℕ
-upto u [] item v = v
-upto u (T ∷ S) item v = upto u S item (oneUpto u T item v)
+unfoldable pub runTo : ℕ → List Transaction → ℕ → ℕ → ℕ
+runTo u [] item v = v
+runTo u (T ∷ S) item v = runTo u S item (oneTo u T item v)
 
 module _ (u : ℕ) (T : Transaction) (item v : ℕ) where
-  one-up : T .key ≤ u → oneUpto u T item v ≡ written (T .writes) item v
+  one-up : T .key ≤ u → oneTo u T item v ≡ written (T .writes) item v
   one-up h = rw (le-leb (T .key) u h)
 
-  one-late : u < T .key → oneUpto u T item v ≡ v
+  one-late : u < T .key → oneTo u T item v ≡ v
   one-late h = rw (lt-leb (T .key) u h)
 
-  one-absent : Absent item (T .writes) → oneUpto u T item v ≡ v
+  one-absent : Absent item (T .writes) → oneTo u T item v ≡ v
   one-absent a = cond-ind (λ (z : ℕ). z ≡ v) (leb (T .key) u) (λ _. written-absent (T .writes) item v a) (λ _. refl)
 
 module _ (u : ℕ) where
   -- none of S writes the record
-  upto-quiet : (S : List Transaction) (item v : ℕ) → ((U : Transaction) → In U S → Absent item (U .writes)) → upto u S item v ≡ v
-  unfolding upto
-  upto-quiet [] item v h = refl
-  upto-quiet (T ∷ S) item v h =
-      ap (upto u S item) (one-absent u T item v (h T (here refl))) ∙ upto-quiet S item v (λ U i. h U (there i))
+  runTo-quiet : (S : List Transaction) (item v : ℕ) → ((U : Transaction) → In U S → Absent item (U .writes)) → runTo u S item v ≡ v
+  unfolding runTo
+  runTo-quiet [] item v h = refl
+  runTo-quiet (T ∷ S) item v h =
+      ap (runTo u S item) (one-absent u T item v (h T (here refl))) ∙ runTo-quiet S item v (λ U i. h U (there i))
 
   -- all of S are later than u
-  upto-late : (S : List Transaction) (item v : ℕ) → ((U : Transaction) → In U S → u < U .key) → upto u S item v ≡ v
-  unfolding upto
-  upto-late [] item v h = refl
-  upto-late (T ∷ S) item v h = ap (upto u S item) (one-late u T item v (h T (here refl))) ∙ upto-late S item v (λ U i. h U (there i))
+  runTo-late : (S : List Transaction) (item v : ℕ) → ((U : Transaction) → In U S → u < U .key) → runTo u S item v ≡ v
+  unfolding runTo
+  runTo-late [] item v h = refl
+  runTo-late (T ∷ S) item v h = ap (runTo u S item) (one-late u T item v (h T (here refl))) ∙ runTo-late S item v (λ U i. h U (there i))
 
   -- none of S is later than u
-  pub upto-all : (S : List Transaction) (f : Values) (item : ℕ) → ((U : Transaction) → In U S → U .key ≤ u) → upto u S item (f item) ≡ valuesAfterAll S f item
-  unfolding upto valuesAfterAll
-  upto-all [] f item h = refl
-  upto-all (T ∷ S) f item h = ap (upto u S item) (one-up u T item (f item) (h T (here refl))) ∙ upto-all S (valuesAfter T f) item (λ U i. h U (there i))
+  pub runTo-all : (S : List Transaction) (f : Values) (item : ℕ) → ((U : Transaction) → In U S → U .key ≤ u) → runTo u S item (f item) ≡ valuesAfterAll S f item
+  unfolding runTo valuesAfterAll
+  runTo-all [] f item h = refl
+  runTo-all (T ∷ S) f item h = ap (runTo u S item) (one-up u T item (f item) (h T (here refl))) ∙ runTo-all S (valuesAfter T f) item (λ U i. h U (there i))
 
 -- PLACING T
 module _ (T : Transaction) where
   -- nothing below its key changes
-  pub upto-below : (S : List Transaction) (u item v : ℕ) → u < T .key → upto u (ranked T S) item v ≡ upto u S item v
-  unfolding ranked upto
-  upto-below [] u item v h = one-late u T item v h
-  upto-below (Z ∷ S) u item v h =
-      cond-ind (λ (l : List Transaction). upto u l item v ≡ upto u (Z ∷ S) item v) (precedes Z T)
-      (λ _. upto-below S u item _ h) (λ _. ap (upto u (Z ∷ S) item) (one-late u T item v h))
+  pub runTo-below : (S : List Transaction) (u item v : ℕ) → u < T .key → runTo u (ranked T S) item v ≡ runTo u S item v
+  unfolding ranked runTo
+  runTo-below [] u item v h = one-late u T item v h
+  runTo-below (Z ∷ S) u item v h =
+      cond-ind (λ (l : List Transaction). runTo u l item v ≡ runTo u (Z ∷ S) item v) (precedes Z T)
+      (λ _. runTo-below S u item _ h) (λ _. ap (runTo u (Z ∷ S) item) (one-late u T item v h))
 
   -- nothing of a record that it does not write
-  pub upto-absent : (S : List Transaction) (u item v : ℕ) → Absent item (T .writes) → upto u (ranked T S) item v ≡ upto u S item v
-  unfolding ranked upto
-  upto-absent [] u item v a = one-absent u T item v a
-  upto-absent (Z ∷ S) u item v a =
-      cond-ind (λ (l : List Transaction). upto u l item v ≡ upto u (Z ∷ S) item v) (precedes Z T)
-      (λ _. upto-absent S u item _ a) (λ _. ap (upto u (Z ∷ S) item) (one-absent u T item v a))
+  pub runTo-absent : (S : List Transaction) (u item v : ℕ) → Absent item (T .writes) → runTo u (ranked T S) item v ≡ runTo u S item v
+  unfolding ranked runTo
+  runTo-absent [] u item v a = one-absent u T item v a
+  runTo-absent (Z ∷ S) u item v a =
+      cond-ind (λ (l : List Transaction). runTo u l item v ≡ runTo u (Z ∷ S) item v) (precedes Z T)
+      (λ _. runTo-absent S u item _ a) (λ _. ap (runTo u (Z ∷ S) item) (one-absent u T item v a))
 
   -- where no later one writes the record, its effect comes last
-  pub upto-above : (S : List Transaction) (u item v : ℕ) → T .key ≤ u → Sorted S → ((U : Transaction) → In U S → T .key < U .key → Absent item (U .writes)) →
-      upto u (ranked T S) item v ≡ written (T .writes) item (upto u S item v)
-  unfolding ranked upto Sorted
-  upto-above [] u item v h s q = one-up u T item v h
-  upto-above (Z ∷ S) u item v h s q =
-      cond-ind (λ (l : List Transaction). upto u l item v ≡ written (T .writes) item (upto u (Z ∷ S) item v)) (precedes Z T)
-      (λ _. upto-above S u item _ h (s .1) (λ U i. q U (there i)))
-      (λ a. ap (upto u (Z ∷ S) item) (one-up u T item v h)
-      ∙ upto-quiet u (Z ∷ S) item (written (T .writes) item v) (quiet (precedes-no Z T a))
-      ∙ ap (written (T .writes) item) (sym (upto-quiet u (Z ∷ S) item v (quiet (precedes-no Z T a)))))
+  pub runTo-above : (S : List Transaction) (u item v : ℕ) → T .key ≤ u → Sorted S → ((U : Transaction) → In U S → T .key < U .key → Absent item (U .writes)) →
+      runTo u (ranked T S) item v ≡ written (T .writes) item (runTo u S item v)
+  unfolding ranked runTo Sorted
+  runTo-above [] u item v h s q = one-up u T item v h
+  runTo-above (Z ∷ S) u item v h s q =
+      cond-ind (λ (l : List Transaction). runTo u l item v ≡ written (T .writes) item (runTo u (Z ∷ S) item v)) (precedes Z T)
+      (λ _. runTo-above S u item _ h (s .1) (λ U i. q U (there i)))
+      (λ a. ap (runTo u (Z ∷ S) item) (one-up u T item v h)
+      ∙ runTo-quiet u (Z ∷ S) item (written (T .writes) item v) (quiet (precedes-no Z T a))
+      ∙ ap (written (T .writes) item) (sym (runTo-quiet u (Z ∷ S) item v (quiet (precedes-no Z T a)))))
     where
       quiet : T .key < Z .key → (U : Transaction) → In U (Z ∷ S) → Absent item (U .writes)
       quiet l U i = q U i (all-later (T .key) Z S s l U i)
@@ -149,20 +149,20 @@ right-same (U ∷ S) f g h t = (
 
 -- T MAY BE RANKED: its reads are right at its key, and no later one reads what it writes
 pub right-ranked : (T : Transaction) (S : List Transaction) (f : Values) → Sorted S →
-    ((e : FirstRead) → In e (T .reads) → upto (T .key) S (e .item) (f (e .item)) ≡ e .value) →
+    ((e : FirstRead) → In e (T .reads) → runTo (T .key) S (e .item) (f (e .item)) ≡ e .value) →
     ((U : Transaction) → In U S → T .key < U .key → (e : FirstRead) → In e (U .reads) → Absent (e .item) (T .writes)) →
     Right S f → Right (ranked T S) f
-unfolding Right ranked upto Sorted
+unfolding Right ranked runTo Sorted
 right-ranked T [] f s h q t = (h, tt)
 right-ranked T (Z ∷ S) f s h q t =
     cond-ind (λ (l : List Transaction). Right l f) (precedes Z T)
     (λ a. (
       t .0,
       right-ranked T S (valuesAfter Z f) (s .1)
-          (λ e i. ap (upto (T .key) S (e .item)) (sym (one-up (T .key) Z (e .item) (f (e .item)) (precedes-yes Z T a))) ∙ h e i) (λ U i. q U (there i)) (t .1),
+          (λ e i. ap (runTo (T .key) S (e .item)) (sym (one-up (T .key) Z (e .item) (f (e .item)) (precedes-yes Z T a))) ∙ h e i) (λ U i. q U (there i)) (t .1),
     ))
     (λ a. (
-      λ e i. sym (upto-late (T .key) (Z ∷ S) (e .item) (f (e .item)) (late (precedes-no Z T a))) ∙ h e i,
+      λ e i. sym (runTo-late (T .key) (Z ∷ S) (e .item) (f (e .item)) (late (precedes-no Z T a))) ∙ h e i,
       right-same (Z ∷ S) f (valuesAfter T f) (λ U i e j. written-absent (T .writes) (e .item) (f (e .item)) (q U i (late (precedes-no Z T a) U i) e j)) t,
     ))
   where

@@ -18,7 +18,7 @@ use Rattle.serial.proofs.Seal.{firstReadOf}
 -- ENTRIES
 abbrev pub entryAt : List ℕ → ℕ → ReadEntry
 entryAt g i =
-    record { told = record { item = readItem g i; value = readValue g i }; wrote = keptWrite g i; upTo = keptRead g i }
+    record { told = record { item = readItem g i; value = readValue g i }; keptWrite = keptWrite g i; keptRead = keptRead g i }
 
 -- those in use
 abbrev pub readEntries : List ℕ → List ReadEntry
@@ -70,7 +70,7 @@ view-working n g a b = view-early n g (omega arith) (omega arith) ∙ rw b
 -- entries are the same where their numbers are
 pub entry-same : (g h : List ℕ) (i : ℕ) → getD h (readItemAt i) 0 ≡ getD g (readItemAt i) 0 → getD h (readValueAt i) 0 ≡ getD g (readValueAt i) 0 →
     getD h (keptWriteAt i) 0 ≡ getD g (keptWriteAt i) 0 → getD h (keptReadAt i) 0 ≡ getD g (keptReadAt i) 0 → entryAt h i ≡ entryAt g i
-entry-same g h i a b c d = λ z. record { told = record { item = a z; value = b z }; wrote = c z; upTo = d z }
+entry-same g h i a b c d = λ z. record { told = record { item = a z; value = b z }; keptWrite = c z; keptRead = d z }
 
 -- A NUDGED ROW has its entries
 module _ {g h : List ℕ} {ph p t : ℕ} (n : Nudged g h ph p t) where
@@ -86,18 +86,18 @@ module _ {g h : List ℕ} {ph p t : ℕ} (n : Nudged g h ph p t) where
   nudged-view key = λ z. seatOf key (n .is-phase z) (n .is-position z) (nudged-reads n z) (nudged-writes n z) (n .is-time z) (nudged-entry z) (nudged-write n z)
 
 -- A ROW WITH A NEW READ ENTRY has that after the others
-module _ {g h : List ℕ} {item value wrote upTo : ℕ} (n : WithRead g h item value wrote upTo) (few : reads g < mostReads) where
+module _ {g h : List ℕ} {item value keptW keptR : ℕ} (n : WithRead g h item value keptW keptR) (few : reads g < mostReads) where
   noted-entry : (i : ℕ) → i < reads g → entryAt h i ≡ entryAt g i
   noted-entry i l =
       entry-same g h i (n .before (readItemAt i) (omega arith) (omega arith)) (n .before (readValueAt i) (omega arith) (omega arith))
       (n .before (keptWriteAt i) (omega arith) (omega arith)) (n .before (keptReadAt i) (omega arith) (omega arith))
 
-  pub noted-readEntries : readEntries h ≡ readEntries g ++ (record { told = record { item = item; value = value }; wrote = wrote; upTo = upTo } ∷ [])
+  pub noted-readEntries : readEntries h ≡ readEntries g ++ (record { told = record { item = item; value = value }; keptWrite = keptW; keptRead = keptR } ∷ [])
   noted-readEntries =
       ap (seg (entryAt h) 0) (n .count)
       ∙ seg-more (entryAt h) (reads g)
       ∙ (λ z. seg-ext (entryAt h) (entryAt g) (reads g) 0 (λ i _ l. noted-entry i (omega arith)) z
-      ++ (record { told = record { item = n .has-item z; value = n .has-value z }; wrote = n .has-wrote z; upTo = n .has-upTo z } ∷ []))
+      ++ (record { told = record { item = n .has-item z; value = n .has-value z }; keptWrite = n .has-keptWrite z; keptRead = n .has-keptRead z } ∷ []))
 
 -- A ROW WITH THE SAME FRONT has its read entries
 pub front-entries : (g h : List ℕ) → SameFront g h → reads g ≤ mostReads → readEntries h ≡ readEntries g

@@ -111,7 +111,7 @@ module _ (opening : Values) (t : Tables) (b : Observer) (now : Mirrored opening 
             agree-seeing (now .agree) (tables (t .values) (t .words) (readNoted (t .seats) s item v word)) (now .σ .version) s _ h refl refl (now .agree .shown)
             (becomes-noted (t .seats) s item v word (omega arith)) x
             ((λ i. working (readEntries g
-            ++ (record { told = record { item = item; value = m .is-value i }; wrote = m .is-wrote i; upTo = m .is-upTo i } ∷ [])) [])
+            ++ (record { told = record { item = item; value = m .is-value i }; keptWrite = m .is-wrote i; keptRead = m .is-upTo i } ∷ [])) [])
             ∙ (λ i. working (sym (noted-readEntries n few) i) [])
             ∙ sym (view-working (x .key) h ph po))
             (λ _. seen-working h x ph (read-shows g (b .seats s) (seen-ok .shows) item h v (writeTime word) (readTime word) n few unknown));

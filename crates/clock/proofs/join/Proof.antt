@@ -1,7 +1,7 @@
 -- `clock::join` meets its contract: the sum of the parts fits. Assumes nothing.
 use borrow.Author.Needs.{needs}
 use native.Mathlib.Omega.{arith}
-use Rattle.clock.specs.Word.{joined, distanceSpan, timeSpan, lockBit, top}
+use Rattle.clock.specs.Word.{wordOf, distanceSpan, timeSpan, lockBit, top}
 use Rattle.clock.specs.Laws.{bit-small}
 use Rattle.clock.proofs.join.Statement.{statement}
 use Rattle.clock.proofs.join.Tie as tie
@@ -25,7 +25,7 @@ unfolding distanceSpan timeSpan top
 add-result-2 c = omega (arith, bit-small (c .args .locked))
 
 returns : tie.Need-returns
-unfolding joined lockBit distanceSpan timeSpan
+unfolding wordOf lockBit distanceSpan timeSpan
 returns c = omega arith
 
 pub join-spec : {M : Type 1} → statement M
