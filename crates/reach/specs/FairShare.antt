@@ -4,7 +4,7 @@ use mathlib.Core.Path.{_≡_}
 use mathlib.Core.Logic.{_≢_, _⊎_, _↔_}
 use mathlib.Core.Bool.{not}
 use Rattle.rules.specs.Tests.{count, sumTo}
-use Rattle.rules.specs.Layout.{owners, seatCount, row, phase, owner, share, limit}
+use Rattle.rules.specs.Layout.{owners, seatCount, row, phase, owner, share, limit, free, working}
 use Rattle.rules.specs.Tables.{Tables}
 use Rattle.rules.specs.Plan.{held, claims, isFree}
 use Rattle.rules.specs.Answers.{seat, kind, number}
@@ -35,9 +35,9 @@ module _ (t : Tables) where
 -- the seat s that owner o is given: free, with none below it free; then in phase 1 and the owner's
 pub record Given (t : Tables) (o s : ℕ) : Type 0 where
   pub in-range : s < seatCount
-  pub was-free : phase (row (t .seats) s) ≡ 0
-  pub lowest : (j : ℕ) → j < s → phase (row (t .seats) j) ≢ 0
-  pub now-open : phase (row (step t (Open o) .tables .seats) s) ≡ 1
+  pub was-free : phase (row (t .seats) s) ≡ free
+  pub lowest : (j : ℕ) → j < s → phase (row (t .seats) j) ≢ free
+  pub now-open : phase (row (step t (Open o) .tables .seats) s) ≡ working
   pub now-owned : owner (row (step t (Open o) .tables .seats) s) ≡ o
 
 -- ONE OWNER, a number below sixteen

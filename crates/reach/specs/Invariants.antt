@@ -7,7 +7,9 @@ use mathlib.Core.List.{List, map}
 use lib.ListN.{length, getD}
 use lib.Dec.{eqb, leb}
 use Rattle.clock.specs.Word.{top, isLocked, writeTime, readTime}
-use Rattle.rules.specs.Layout.{seatCount, rowWidth, writesFrom, readItemAt, writeItemAt, row, cell, phase, position, reads, writes, time}
+use Rattle.rules.specs.Layout.{seatCount, rowWidth, writesFrom, readItemAt, writeItemAt, row, cell, phase, position, reads, writes, time, free, storing}
+use Rattle.rules.specs.Layout.{checking}
+use Rattle.rules.specs.Layout.{locking}
 use Rattle.rules.specs.Layout.{readItem, keptWrite, keptRead, writeItem}
 use Rattle.rules.specs.Tables.{Tables}
 use Rattle.rules.specs.Refusals.{damaged}
@@ -19,10 +21,10 @@ use Rattle.reach.specs.Counts.{readCount}
 -- LOCKS. A row holds the locks of its write entries from `lockFrom` below `lockTo`:
 -- in phases 1 and 2 of the first `position`, in phase 3 of all, in phase 4 of those from position on
 unfoldable pub lockFrom : List ℕ → ℕ
-lockFrom g = cond (eqb (phase g) 4) (position g) 0
+lockFrom g = cond (eqb (phase g) storing) (position g) 0
 
 unfoldable pub lockTo : List ℕ → ℕ
-lockTo g = cond (leb 3 (phase g)) (writes g) (position g)
+lockTo g = cond (leb checking (phase g)) (writes g) (position g)
 
 -- entry i is among those from lo below hi, and names the record; items gives each entry's record
 pub record Names (items : ℕ → ℕ) (lo hi item i : ℕ) : Type 0 where
@@ -61,7 +63,7 @@ firstItem e = e .item
 -- ENTRIES. Write entries stand in strictly ascending record number, read entries name distinct records, and all of them name records
 module _ (t : Tables) where
   abbrev pub InUse : ℕ → Type 0
-  InUse s = (s < seatCount) × (phase (rowOf t s) ≢ 0)
+  InUse s = (s < seatCount) × (phase (rowOf t s) ≢ free)
 
   abbrev pub WritesAscend : Type 0
   WritesAscend = (s i j : ℕ) → InUse s → i < j → j < writes (rowOf t s) → writeItem (rowOf t s) i < writeItem (rowOf t s) j
@@ -89,10 +91,10 @@ module _ (t : Tables) where
   UnusedWritesZero = (s f : ℕ) → InUse s → writeItemAt (writes (rowOf t s)) ≤ f → f < rowWidth → cell (t .seats) s f ≡ 0
 
   abbrev pub UntimedZero : Type 0
-  UntimedZero = (s : ℕ) → InUse s → phase (rowOf t s) ≤ 2 → time (rowOf t s) ≡ 0
+  UntimedZero = (s : ℕ) → InUse s → phase (rowOf t s) ≤ locking → time (rowOf t s) ≡ 0
 
   abbrev pub FreeRowsZero : Type 0
-  FreeRowsZero = (s f : ℕ) → s < seatCount → phase (rowOf t s) ≡ 0 → f < rowWidth → cell (t .seats) s f ≡ 0
+  FreeRowsZero = (s f : ℕ) → s < seatCount → phase (rowOf t s) ≡ free → f < rowWidth → cell (t .seats) s f ≡ 0
 
   -- TIMES. No time is above T
   abbrev pub WordsTimely : Type 0
@@ -109,4 +111,4 @@ module _ (t : Tables) where
   KeptOrdered = (s i : ℕ) → InUse s → i < reads (rowOf t s) → keptWrite (rowOf t s) i ≤ keptRead (rowOf t s) i
 
   abbrev pub CommitNotBelow : Type 0
-  CommitNotBelow = (s i : ℕ) → InUse s → 3 ≤ phase (rowOf t s) → i < reads (rowOf t s) → keptWrite (rowOf t s) i ≤ time (rowOf t s)
+  CommitNotBelow = (s i : ℕ) → InUse s → checking ≤ phase (rowOf t s) → i < reads (rowOf t s) → keptWrite (rowOf t s) i ≤ time (rowOf t s)

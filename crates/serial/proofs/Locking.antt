@@ -99,7 +99,8 @@ module _ (opening : Values) (t : Tables) (b : Observer) (now : Mirrored opening 
         let e = write≤read (getD (t .words) (writeItem g (z .0)) 0) in
         rw (z .3) (record { key = omega (arith, m .is-upTo); time = omega (arith, m .is-wrote) })
 
-    time-mirrored : Mirrored opening (tables (t .values) (t .words) (put (moved (t .seats) s 3 0) s timeAt due)) (seeing b s (onAdvance (b .seats s) (Timed due)))
+    time-mirrored :
+        Mirrored opening (tables (t .values) (t .words) (put (moved (t .seats) s 3 0) s timeAt due)) (seeing b s (onAdvance (b .seats s) (Timed due)))
     unfolding seatOf seg onAdvance
     time-mirrored =
         let x = onAdvance (b .seats s) (Timed due) in

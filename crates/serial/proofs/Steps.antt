@@ -224,7 +224,8 @@ module _ (opening : Values) where
   -- CHECK that extends, one step: the version is still the one that was read and nobody holds it; `wrote` is its write time from now on
   pub renews-inv : (σ : State) → Inv opening σ → (s : ℕ) (t : Stamp) (ok rs : List ReadEntry) (ws : List WriteEntry) (e : ReadEntry) (wrote : ℕ) →
       σ .seat s ≡ checking t ok (e ∷ rs) ws →
-      σ .version (e .told .item) .holder ≡ none → σ .version (e .told .item) .wrote ≡ e .keptWrite → e .keptWrite ≤ wrote → σ .version (e .told .item) .upTo ≤ t .key →
+      σ .version (e .told .item) .holder ≡ none → σ .version (e .told .item) .wrote ≡ e .keptWrite →
+      e .keptWrite ≤ wrote → σ .version (e .told .item) .upTo ≤ t .key →
       Inv opening (reseat (reversion σ (e .told .item) (reaching wrote (t .key) (σ .version (e .told .item)))) s (checking t (ok ++ (e ∷ [])) rs ws))
   renews-inv σ h s t ok rs ws e wrote q o a b c =
       let item = e .told .item in
