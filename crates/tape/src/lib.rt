@@ -14,6 +14,7 @@ use turns::Fault;
 use turns::LAST_ROOM;
 use turns::LINE_ROOM;
 use turns::Turn;
+use turns::take_turn;
 
 // What is kept from call to call beside the tables: the calls so far, the offset of the next, and the records that Setup gave.
 pub struct Counts {
@@ -104,25 +105,12 @@ fn feed(
     let mut records = k.records;
     let mut end = from;
     while used < part.len() {
-        let offset = base + used as u64;
-        let t = turns::take_turn(
-            &part[used..],
-            calls + 1,
-            offset,
-            records,
-            values,
-            words,
-            seats,
-            out,
-            end,
-        );
+        let rest = &part[used..];
+        let at = base + used as u64;
+        let t = take_turn(rest, calls + 1, at, records, values, words, seats, out, end);
         match t {
-            Turn::Wait => {
-                return so_far(used, calls, records, end, false);
-            }
-            Turn::Stop { len } => {
-                return so_far(used, calls, records, sum(end, len), true);
-            }
+            Turn::Wait => return so_far(used, calls, records, end, false),
+            Turn::Stop { len } => return so_far(used, calls, records, sum(end, len), true),
             Turn::Said(taken, len, lent) => {
                 used += taken;
                 calls += 1;

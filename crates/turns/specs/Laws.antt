@@ -143,12 +143,12 @@ stop-line fault offset h =
 pub record Says (t x : List ℕ) (records used records′ : ℕ) : Type 0 where
   pub least : lengthSize ≤ used
   pub within : used ≤ length t
-  pub room : length x ≤ lineRoom * used
+  pub fits : length x ≤ lineRoom * used
   pub few : records ≤ mostRecords → records′ ≤ mostRecords
 
 pub record Stops (t x : List ℕ) : Type 0 where
   pub least : lengthSize ≤ length t
-  pub room : length x ≤ lastRoom
+  pub fits : length x ≤ lastRoom
 
 abbrev pub Good : ℕ → List ℕ → Turned → Type 0
 Good records t waits = length t < lengthSize + be16 t 0
@@ -159,8 +159,8 @@ module _ (n offset records : ℕ) (t : Tables) (rest : List ℕ) where
   good-body : (k : ℕ) (d : Decoded) → lengthSize + k ≤ length rest → Fits (take k (drop lengthSize rest)) d
       → Good records rest (bodyTurn n offset records t (take k (drop lengthSize rest)) d)
   unfolding bodyTurn callTurn
-  good-body k Unknown h f = record { least = omega arith; room = stop-line unknownKind offset (unfold widthOf widthIn in omega arith) }
-  good-body k Misfit h f = record { least = omega arith; room = stop-line misfit offset (unfold widthOf widthIn in omega arith) }
+  good-body k Unknown h f = record { least = omega arith; fits = stop-line unknownKind offset (unfold widthOf widthIn in omega arith) }
+  good-body k Misfit h f = record { least = omega arith; fits = stop-line misfit offset (unfold widthOf widthIn in omega arith) }
   good-body k (Whole c) h f =
       let b : List ℕ = take k (drop lengthSize rest) in
       let a : Answer = performed records t c b .answer in
@@ -168,7 +168,7 @@ module _ (n offset records : ℕ) (t : Tables) (rest : List ℕ) where
       record {
         least = omega arith;
         within = omega arith;
-        room = omega (arith, length-line n (lettersOf a) (number a), letters-few a, width-small n, width-small (number a), f .1);
+        fits = omega (arith, length-line n (lettersOf a) (number a), letters-few a, width-small n, width-small (number a), f .1);
         few = records-few c b records t;
       }
 

@@ -147,8 +147,8 @@ add-take-turn c =
     let at-loop : tie.At-loop Inv-loop μ-loop = search in
     omega (arith, start .pre .calls, at-loop .loop .inv .few, at-loop .loop .inv .counted)
 
-add-offset : tie.Need-add-offset Inv-loop μ-loop
-add-offset c =
+add-at : tie.Need-add-at Inv-loop μ-loop
+add-at c =
     let start : tie.Start Inv-loop μ-loop = search in
     let at-loop : tie.At-loop Inv-loop μ-loop = search in
     omega (arith, start .pre .offset, at-loop .loop .inv .within)
@@ -205,10 +205,10 @@ feed-spec =
     Inv-loop
     μ-loop
     loop-holds
-    add-offset
     (λ c. search needs)
     (λ c. search needs)
     (λ c. search needs)
+    add-at
     add-take-turn
     (λ c κs. search needs)
     (λ c. search needs)
