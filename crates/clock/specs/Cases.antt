@@ -8,16 +8,16 @@ use Rattle.clock.specs.declared.Packed.the-variants.{Word, Refused}
 use Rattle.clock.specs.Word.{distanceSpan, timeSpan, top, lockBit, distance, writeTime, isLocked, wordOf, fresh, extended, packed, freshAt, extendedTo}
 
 -- an answer in numbers: a word is itself, its write time and its distance; a refusal its number alone
-unfoldable pub told : Packed → List ℕ
-told (Refused n) = n ∷ []
-told (Word w) = w ∷ writeTime w ∷ distance w ∷ []
+unfoldable pub shows : Packed → List ℕ
+shows (Refused n) = n ∷ []
+shows (Word w) = w ∷ writeTime w ∷ distance w ∷ []
 
 unfoldable pub wordCases : List (List ℕ)
 wordCases =
-    told (packed true 5 3)
-    ∷ told (extendedTo (fresh 2) 32769)
-    ∷ told (extendedTo (fresh 2) 32770)
-    ∷ told (extendedTo (fresh 2) 32771)
+    shows (packed true 5 3)
+    ∷ shows (extendedTo (fresh 2) 32769)
+    ∷ shows (extendedTo (fresh 2) 32770)
+    ∷ shows (extendedTo (fresh 2) 32771)
     ∷ []
 
 unfoldable pub wordDue : List (List ℕ)
@@ -29,21 +29,21 @@ wordDue =
     ∷ []
 
 pub word-cases : wordCases ≡ wordDue
-unfolding wordCases wordDue told distanceSpan timeSpan top lockBit isLocked distance writeTime wordOf fresh extended packed freshAt extendedTo
+unfolding wordCases wordDue shows distanceSpan timeSpan top lockBit isLocked distance writeTime wordOf fresh extended packed freshAt extendedTo
 word-cases = refl
 
 -- the greatest distance and the greatest time are taken, one more is refused
 unfoldable pub limitCases : List (List ℕ)
 limitCases =
-    told (packed false 32767 0)
-    ∷ told (packed false 32768 0)
-    ∷ told (packed false 0 281474976710655)
-    ∷ told (packed false 0 281474976710656)
-    ∷ told (freshAt 281474976710655)
-    ∷ told (freshAt 281474976710656)
-    ∷ told (extendedTo (fresh 281474976710655) 281474976710655)
-    ∷ told (extendedTo (fresh 281474976710655) 281474976710656)
-    ∷ told (extendedTo (fresh 2) 1)
+    shows (packed false 32767 0)
+    ∷ shows (packed false 32768 0)
+    ∷ shows (packed false 0 281474976710655)
+    ∷ shows (packed false 0 281474976710656)
+    ∷ shows (freshAt 281474976710655)
+    ∷ shows (freshAt 281474976710656)
+    ∷ shows (extendedTo (fresh 281474976710655) 281474976710655)
+    ∷ shows (extendedTo (fresh 281474976710655) 281474976710656)
+    ∷ shows (extendedTo (fresh 2) 1)
     ∷ []
 
 unfoldable pub limitDue : List (List ℕ)
@@ -60,5 +60,5 @@ limitDue =
     ∷ []
 
 pub limit-cases : limitCases ≡ limitDue
-unfolding limitCases limitDue told distanceSpan timeSpan top lockBit isLocked distance writeTime wordOf fresh extended packed freshAt extendedTo
+unfolding limitCases limitDue shows distanceSpan timeSpan top lockBit isLocked distance writeTime wordOf fresh extended packed freshAt extendedTo
 limit-cases = refl
