@@ -30,7 +30,7 @@ test: ## every test and every proof: the quick checks, all proofs from nothing, 
 
 ## The quick checks
 
-quick: gate-selftest promises lint ## those with which the gate begins
+quick: gate-selftest promises bars lint ## those with which the gate begins
 
 gate-selftest: ## whether the gate tells green from red
 	tools/gate-selftest
