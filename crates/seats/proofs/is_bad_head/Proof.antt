@@ -1,8 +1,10 @@
 -- `seats::is_bad_head` meets its contract. Assumes nothing.
+use mathlib.Core.Path.{_≡_}
+use mathlib.Core.Bool.{_||_}
 use borrow.Author.Tests.{le-leb, le-ltb, lt-leb, lt-ltb}
 use borrow.Author.Needs.{needs}
 use Rattle.rules.specs.Tests.{oneOf}
-use Rattle.rules.specs.Refusals.{badHead}
+use Rattle.rules.specs.Refusals.{misplaced, late, badHead}
 use Rattle.seats.specs.Heads.{headRow}
 use Rattle.seats.proofs.is_bad_head.Statement.{statement}
 use Rattle.seats.proofs.is_bad_head.Tie as tie
@@ -37,39 +39,33 @@ returns-4 c =
       lt-ltb _ _ (c .if4 .taken),
     )
 
-returns-5 : tie.Need-returns-5
+-- ITS NUMBERS IN RANGE: position and time are left
+in-range : (c : tie.Else4) →
+    let start : tie.Start = search in
+    let h = start .args .head in
+    badHead (headRow h) ≡ misplaced (h .phase) (h .position) (h .reads) (h .writes) || late (h .phase) (h .time)
 unfolding badHead headRow oneOf
-returns-5 c =
-    let writes-in : tie.Else4 = search in
-    let reads-in : tie.Else3 = search (writes-in) in
+in-range c =
+    let reads-in : tie.Else3 = search in
     let owner-in : tie.Else2 = search (reads-in) in
     let phase-in : tie.Else1 = search (owner-in) in
     simp (
       le-ltb _ _ (phase-in .if1 .left),
       lt-leb _ _ (owner-in .if2 .left),
       le-ltb _ _ (reads-in .if3 .left),
-      le-ltb _ _ (writes-in .if4 .left),
-      ← c .before .is-misplaced .ensures,
-      c .if5 .taken,
+      le-ltb _ _ (c .if4 .left),
     )
 
+returns-5 : tie.Need-returns-5
+returns-5 c =
+    let writes-in : tie.Else4 = search in
+    simp (in-range writes-in, ← c .before .is-misplaced .ensures, c .if5 .taken)
+
 returns-6 : tie.Need-returns-6
-unfolding badHead headRow oneOf
 returns-6 c =
     let in-place : tie.Else5 = search in
     let writes-in : tie.Else4 = search (in-place) in
-    let reads-in : tie.Else3 = search (writes-in) in
-    let owner-in : tie.Else2 = search (reads-in) in
-    let phase-in : tie.Else1 = search (owner-in) in
-    simp (
-      le-ltb _ _ (phase-in .if1 .left),
-      lt-leb _ _ (owner-in .if2 .left),
-      le-ltb _ _ (reads-in .if3 .left),
-      le-ltb _ _ (writes-in .if4 .left),
-      ← in-place .before .is-misplaced .ensures,
-      in-place .if5 .left,
-      ← c .is-late .ensures,
-    )
+    simp (in-range writes-in, ← in-place .before .is-misplaced .ensures, in-place .if5 .left, ← c .is-late .ensures)
 
 pub is-bad-head-spec : {M : Type 1} → statement M
 is-bad-head-spec =
