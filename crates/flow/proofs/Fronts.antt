@@ -9,7 +9,7 @@ use lib.Dec.{eqb}
 use lib.ListN.{length, take, drop, getD, take-append-drop}
 use lib.Seq.{length-take-le, take-add, getD-take}
 use borrow.Author.Tests.{eq-eqb, ne-eqb, le-leb}
-use Rattle.text.specs.Text.{greatest, putIn, Appended}
+use Rattle.text.specs.Text.{greatest, Appended}
 use Rattle.rules.specs.Tables.{Tables}
 use Rattle.turns.specs.Faults.{noVersion, stopLine}
 use Rattle.turns.specs.Laws.{put-nothing}

@@ -5,7 +5,7 @@ ghost use lib.ListN.{length};
 ghost use Rattle.rules.specs.Tables.{tables};
 ghost use Rattle.rules.specs.Lent.{lent};
 ghost use Rattle.answers.specs.Left.{leftTables};
-ghost use Rattle.monitor.specs.Program.{inputLength, outputLength, Buffers, Fetched, Asked, Pumped, Ended};
+ghost use Rattle.monitor.specs.Program.{outputLength, Buffers, Fetched, Asked, Pumped, Ended};
 use flow::Flow;
 use frames::LONGEST;
 use libc::STDERR_FILENO;

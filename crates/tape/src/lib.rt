@@ -1,6 +1,6 @@
 // Tapes: a run over a part of a tape, turn by turn, and the whole.
 ghost use mathlib.Core.Path.{_≡_};
-ghost use Prim.Native.Nat.{_-_, _≤_};
+ghost use Prim.Native.Nat.{_-_};
 ghost use lib.ListN.{length, drop};
 ghost use lib.Seq.{paste};
 ghost use Rattle.rules.specs.Lent.{lent};

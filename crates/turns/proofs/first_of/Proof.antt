@@ -1,6 +1,5 @@
 -- `turns::first_of` meets its contract. Assumes nothing.
-use mathlib.Core.Path.{refl, sym, _∙_}
-use mathlib.Core.List.{List}
+use mathlib.Core.Path.{sym, _∙_}
 use native.Mathlib.Omega.{arith}
 use lib.ListN.{drop-of-length-le}
 use lib.Seq.{take-all}
