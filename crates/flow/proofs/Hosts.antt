@@ -38,7 +38,7 @@ reached : {f : Flow} {t : Tables} {buffer : List ℕ} {parts : List (List ℕ)} 
 unfolding printed
 reached (begins e) = begun e
 reached (reads {f} {t} {buffer} {front} {out} {to} {r} {buffer′} {t′} {out′} {parts} {written} h same fine s) =
-    let before : standOf f t front ≡ standOf f t buffer = rw same in
+    let same-stand : standOf f t front ≡ standOf f t buffer = rw same in
     let p : List ℕ = part front (f .waiting) to in
     let o : Step = stepped (standOf f t front) p in
     let w : Went o front out r buffer′ t′ out′ = s .done fine in
@@ -47,7 +47,7 @@ reached (reads {f} {t} {buffer} {front} {out} {to} {r} {buffer′} {t′} {out�
       prints = λ more.
           ap (printed start) (append-assoc parts (p ∷ []) more)
           ∙ reached h .prints (p ∷ more)
-          ∙ ap (λ (x : Stand). written ++ printed x (p ∷ more)) (sym before)
+          ∙ ap (λ (x : Stand). written ++ printed x (p ∷ more)) (sym same-stand)
           ∙ sym (append-assoc written (o .text) (printed (o .stand) more))
           ∙ rw (texted o front out w, stands o front out w);
     }

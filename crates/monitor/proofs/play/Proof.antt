@@ -37,9 +37,6 @@ loop-holds c =
 abbrev start-of : tie.In-loop Inv-loop μ-loop → tie.Start Inv-loop μ-loop
 start-of c = search
 
-fetch-requires : tie.Need-fetch-requires Inv-loop μ-loop
-fetch-requires c κs = search needs
-
 close-requires : tie.Need-close-requires Inv-loop μ-loop
 close-requires c κs =
     let start : tie.Start Inv-loop μ-loop = search in
@@ -101,7 +98,7 @@ play-spec =
     μ-loop
     (λ c κs. search needs)
     loop-holds
-    fetch-requires
+    (λ c κs. search needs)
     (λ c. search needs)
     (λ c κs. search needs)
     (λ c. search needs)

@@ -28,26 +28,8 @@ abbrev μ-loop : tie.MeasureT-loop
 loop-holds : tie.Need-loop-holds Inv-loop μ-loop
 loop-holds c = record { within = search needs; as-long = refl; same = refl }
 
-add-plan : tie.Need-add-plan Inv-loop μ-loop
-add-plan c = search needs
-
-shared-slice-read-plan : tie.Need-shared-slice-read-plan Inv-loop μ-loop
-shared-slice-read-plan c = search needs
-
 cast-plan : tie.Need-cast-plan Inv-loop μ-loop
 cast-plan c = omega (arith, c .shared-slice-known .given (planFrom + c .before .before .loop .i))
-
-mul-plan : tie.Need-mul-plan Inv-loop μ-loop
-mul-plan c = search needs
-
-array-write-plan : tie.Need-array-write-plan Inv-loop μ-loop
-array-write-plan c = search needs
-
-add-i : tie.Need-add-i Inv-loop μ-loop
-add-i c = search needs
-
-loop-less : tie.Need-loop-less Inv-loop μ-loop
-loop-less c = search needs
 
 loop-again : tie.Need-loop-again Inv-loop μ-loop
 loop-again c =
@@ -77,12 +59,12 @@ plan-of-spec =
     Inv-loop
     μ-loop
     loop-holds
-    add-plan
-    shared-slice-read-plan
+    (λ c. search needs)
+    (λ c. search needs)
     cast-plan
-    mul-plan
-    array-write-plan
-    add-i
-    loop-less
+    (λ c. search needs)
+    (λ c. search needs)
+    (λ c. search needs)
+    (λ c. search needs)
     loop-again
     returns)

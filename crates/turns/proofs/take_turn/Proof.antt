@@ -1,5 +1,5 @@
 -- `turns::take_turn` meets its contract. Assumes nothing.
-use Prim.Native.Nat.{_+_, _≤_}
+use Prim.Native.Nat.{ℕ, _+_, _≤_}
 use mathlib.Core.Path.{_≡_, refl, sym, _∙_}
 use native.Mathlib.Omega.{arith}
 use native.Mathlib.Nat.{add-sub-cancel-left}
@@ -18,10 +18,13 @@ use Rattle.turns.proofs.take_turn.Tie as tie
 abbrev start : tie.After-f → tie.Start
 start c = search
 
-frame-is : (c : tie.After-f) → frameOf (now (start c .args .rest)) ≡ Body (c .f .given .0 .0)
+abbrev size : tie.After-f → ℕ
+size c = c .f .given .0 .0
+
+frame-is : (c : tie.After-f) → frameOf (now (start c .args .rest)) ≡ Body (size c)
 frame-is c = let at-split : tie.After-split = search in sym (at-split .split .ensures) ∙ c .f .given .1
 
-body-within : (c : tie.After-f) → lengthSize + c .f .given .0 .0 ≤ length (now (start c .args .rest))
+body-within : (c : tie.After-f) → lengthSize + size c ≤ length (now (start c .args .rest))
 body-within c = body-inside _ _ (frame-is c)
 
 add-body-turn : tie.Need-add-body-turn
@@ -35,7 +38,7 @@ unfolding turnOf frameTurn
 returns c =
     let at-turn : tie.After-body-turn = search in
     let at-body : tie.After-f = search (at-turn) in
-    rw (frame-is at-body) (rw (add-sub-cancel-left lengthSize (at-body .f .given .0 .0)) at (at-turn .body-turn .ensures))
+    rw (frame-is at-body) (rw (add-sub-cancel-left lengthSize (size at-body)) at (at-turn .body-turn .ensures))
 
 -- WHERE THERE IS NONE
 returns-2 : tie.Need-returns-2
