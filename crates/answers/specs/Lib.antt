@@ -1,4 +1,3 @@
--- How an answer's word is spelled (Spelling), what each public function promises (Promises), and the tables that a call left (Left).
+-- How an answer's word is spelled (Spelling), and what each public function promises (Promises).
 pub mod Spelling
 pub mod Promises
-pub mod Left

@@ -1,6 +1,5 @@
 // The calls for hosts in C and Rust, on slices and numbers. Each returns the number of the answer's word and puts the number that it carries into `number`.
-ghost use Rattle.rules.specs.Lent.{lent};
-ghost use Rattle.answers.specs.Left.{leftTables};
+ghost use Rattle.rules.specs.Lent.{lent, leftTables};
 ghost use Rattle.rules.specs.Plan.{setup, openSeat};
 ghost use Rattle.rules.specs.Work.{read, write};
 ghost use Rattle.rules.specs.Advance.{advance, abandon};

@@ -2,8 +2,7 @@
 ghost use mathlib.Core.Path.{_≡_};
 ghost use mathlib.Core.Bool.{false};
 ghost use Rattle.rules.specs.Tables.{tables};
-ghost use Rattle.rules.specs.Lent.{lent};
-ghost use Rattle.answers.specs.Left.{leftTables};
+ghost use Rattle.rules.specs.Lent.{lent, leftTables};
 ghost use Rattle.tape.specs.Inner.{stateOf};
 ghost use Rattle.tape.specs.Promises.{part, unfitFor};
 ghost use Rattle.flow.specs.Parts.{onward, opened};

@@ -10,12 +10,15 @@ use Rattle.rules.specs.declared.Answer.{Answer}
 abbrev pub Lent : Type 0
 Lent = Both (RefT (List ℕ)) (RefT (List ℕ))
 
--- all three, as the call found them; and its answer with what it left
+-- all three, as the call found them; as it left them; and its answer with what it left
 abbrev pub lent : Lent → Lent → Lent → Tables
 lent values words seats = tables (now (values .entry)) (now (words .entry)) (now (seats .entry))
 
+abbrev pub leftTables : Lent → Lent → Lent → Tables
+leftTables values words seats = tables (now (values .exit)) (now (words .exit)) (now (seats .exit))
+
 abbrev pub left : Answer → Lent → Lent → Lent → Outcome
-left r values words seats = answered r (tables (now (values .exit)) (now (words .exit)) (now (seats .exit)))
+left r values words seats = answered r (leftTables values words seats)
 
 -- a step that is lent the words and the seats, or the seats alone: t has the tables that it does not see
 abbrev pub lentLocks : Tables → Lent → Lent → Tables

@@ -3,11 +3,11 @@ ghost use mathlib.Core.Path.{_≡_};
 ghost use Prim.Native.Nat.{_-_};
 ghost use lib.ListN.{length, drop};
 ghost use lib.Seq.{paste};
-ghost use Rattle.rules.specs.Lent.{lent};
-ghost use Rattle.answers.specs.Left.{leftTables};
+ghost use Rattle.rules.specs.Lent.{lent, leftTables};
 ghost use Rattle.tape.specs.Lines.{fed, endLine, callLines, linesOf};
 ghost use Rattle.tape.specs.Inner.{stateOf, capped, Counted, Lies, Ran, LinesIn};
 ghost use Rattle.tape.specs.Promises.{Written, Closed, Unfit, Absorbed};
+use seats::layout::GREATEST;
 use seats::layout::MOST_RECORDS;
 use seats::layout::SEATS_LENGTH;
 use turns::Fault;
@@ -54,9 +54,7 @@ pub const CALLS_FROM: usize = 1;
 
 pub const FIRST_OFFSET: u64 = CALLS_FROM as u64;
 
-// The greatest number of 64 bits.
-const GREATEST: u64 = 18446744073709551615;
-
+// The greatest number of 64 bits, as a length.
 const GREATEST_SIZE: usize = GREATEST as usize;
 
 // Numbers beyond this are too near the end of 64 bits to count on: 2^62.
