@@ -17,7 +17,7 @@ use Rattle.turns.specs.Faults.{noVersion, stopLine}
 use Rattle.turns.specs.Turns.{Turned, waits, stops, says, bodyTurn, frameTurn, turnOf}
 use Rattle.turns.specs.Laws.{Inside, inside, turn-nothing}
 use Rattle.tape.specs.Lines.{State, turnFrom, further, Fed, ended, behind, fed, lastOf, version, opening, callLines, linesOf}
-use Rattle.tape.specs.Runs.{turn-good, fed-waits, fed-stops, fed-says, fed-ind, grown}
+use Rattle.tape.specs.Runs.{turn-from-fits, fed-waits, fed-stops, fed-says, fed-ind, grown}
 use Rattle.flow.proofs.Fronts.{opened-calls, opened-bad}
 use Rattle.flow.specs.Parts.{Stand, Step, start, onward, opened, stepped, closing, printed, joined}
 
@@ -79,7 +79,7 @@ AnyFuel s t o = (g : ℕ) → length t ≤ g → o ≡ fed g s t
 fuel-says : (s : State) (t x : List ℕ) (k records : ℕ) (t′ : Tables) (o : Fed) → turnFrom s t ≡ says x k records t′
     → AnyFuel (further s k records t′) (drop k t) o → AnyFuel s t (behind x o)
 fuel-says s t x k records t′ o e ih g h =
-    let z = turn-good s t e in
+    let z = turn-from-fits s t e in
     ap (behind x) (ih (g - 1) (omega (arith, z .least, length-drop k t))) ∙ sym (fed-says g s t x k records t′ e h)
 
 fed-fuel : (f g : ℕ) (s : State) (t : List ℕ) → length t ≤ f → length t ≤ g → fed f s t ≡ fed g s t
@@ -117,11 +117,11 @@ joins-says b s a x k records t′ o e j =
     }
   where
     rest : (F : ℕ) → length (a ++ b) ≤ F → length (drop k a ++ b) ≤ F - 1
-    rest F h = let z = turn-good s a e in omega (arith, z .least, z .within, length-append a b, length-append (drop k a) b, length-drop k a)
+    rest F h = let z = turn-from-fits s a e in omega (arith, z .least, z .within, length-append a b, length-append (drop k a) b, length-drop k a)
 
     turn : (F : ℕ) → length (a ++ b) ≤ F → fed F s (a ++ b) ≡ behind x (fed (F - 1) (further s k records t′) (drop k a ++ b))
     turn F h =
-        let z = turn-good s a e in
+        let z = turn-from-fits s a e in
         fed-says F s (a ++ b) x k records t′ (same-as s a b e) h
         ∙ ap (λ (l : List ℕ). behind x (fed (F - 1) (further s k records t′) l)) (drop-append-le k a b (z .within))
 

@@ -1,8 +1,7 @@
 // A tape that comes in parts: where it stands between two of them, and what each prints.
 ghost use mathlib.Core.Path.{_≡_};
 ghost use mathlib.Core.Bool.{false};
-ghost use Rattle.rules.specs.Tables.{tables};
-ghost use Rattle.rules.specs.Lent.{lent, leftTables};
+ghost use Rattle.rules.specs.Lent.{lentNow, lent, leftTables};
 ghost use Rattle.tape.specs.Inner.{stateOf};
 ghost use Rattle.tape.specs.Promises.{part, unfitFor};
 ghost use Rattle.flow.specs.Parts.{onward, opened};
@@ -94,7 +93,7 @@ fn take_calls(
     seats: &mut [u64],
     out: &mut [u8],
 ) -> Flow
-    requires { ⌜ unfitFor (now buf) from to (countsOf f) (tables (now values) (now words) (now seats)) (now out) ≡ false ⌝ }
+    requires { ⌜ unfitFor (now buf) from to (countsOf f) (lentNow values words seats) (now out) ≡ false ⌝ }
     ensures { λ r. ⌜
         Goes (onward (stateOf (countsOf f) (lent values words seats)) (part (now (buf .entry)) from to)) (now (buf .entry)) (now (out .entry))
         r (now (buf .exit)) (leftTables values words seats) (now (out .exit)) ⌝ }
@@ -121,7 +120,7 @@ fn open_tape(
     seats: &mut [u64],
     out: &mut [u8],
 ) -> Flow
-    requires { ⌜ unready f (now buf) to (tables (now values) (now words) (now seats)) (now out) ≡ false ⌝ }
+    requires { ⌜ unready f (now buf) to (lentNow values words seats) (now out) ≡ false ⌝ }
     ensures { λ r. ⌜
         Goes (opened (stateOf (countsOf f) (lent values words seats)) (part (now (buf .entry)) 0 to)) (now (buf .entry)) (now (out .entry))
         r (now (buf .exit)) (leftTables values words seats) (now (out .exit)) ⌝ }

@@ -2,8 +2,7 @@
 ghost use mathlib.Core.Path.{_≡_};
 ghost use Prim.Native.Nat.{_≤_, _<_};
 ghost use lib.ListN.{length};
-ghost use Rattle.rules.specs.Tables.{tables};
-ghost use Rattle.rules.specs.Lent.{lent, leftTables};
+ghost use Rattle.rules.specs.Lent.{lentNow, lent, leftTables};
 ghost use Rattle.monitor.specs.Program.{outputLength, Buffers, Fetched, Asked, Pumped, Ended};
 use flow::Flow;
 use frames::LONGEST;
@@ -68,7 +67,7 @@ fn pump(
     seats: &mut [u64],
     out: &mut [u8],
 ) -> Flow
-    requires { ⌜ Asked f (now buf) to (tables (now values) (now words) (now seats)) (now out) ⌝ }
+    requires { ⌜ Asked f (now buf) to (lentNow values words seats) (now out) ⌝ }
     ensures { λ r. ⌜
         Pumped f (now (buf .entry)) to (lent values words seats) (now (out .entry))
         r (now (buf .exit)) (leftTables values words seats) (now (out .exit)) ⌝ }
@@ -86,7 +85,7 @@ fn close(f: Flow, out: &mut [u8]) -> usize
 
 // Reads, hands on what was read, and writes what is given, to the end of the tape.
 fn play(buf: &mut [u8], values: &mut [u64], words: &mut [u64], seats: &mut [u64], out: &mut [u8])
-    requires { ⌜ Buffers (now buf) (tables (now values) (now words) (now seats)) (now out) ⌝ }
+    requires { ⌜ Buffers (now buf) (lentNow values words seats) (now out) ⌝ }
 {
     let mut f = flow::start();
     let mut turns = TURNS;

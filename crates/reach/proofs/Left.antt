@@ -14,7 +14,8 @@ use Rattle.rules.specs.Answers.{dropped, refused, aborted, kind}
 use Rattle.rules.specs.Refusals.{refusal, seatRefusal, recordRefusal}
 use Rattle.rules.specs.Plan.{setupRefusal, setup, openRefusal, openSeat}
 use Rattle.rules.specs.Work.{readOf, writeOf, firstRead, readIn, read, writeIn, write}
-use Rattle.rules.specs.Advance.{heldLocks, letGo, lockStep, commitTime, timeStep, judged, passed, ruled, checkStep, sealStep, storeStep, passedTo}
+use Rattle.rules.specs.Advance.{heldLocks, letGo, lockStep, commitTime, timeStep, judged, passed, ruled, checkStep, sealStep, storeStep, passedTo, wordLocked}
+use Rattle.rules.specs.Advance.{timeRunOut}
 use Rattle.rules.specs.Advance.{doneStep, lockPhase, checkPhase, storePhase, advanceIn, advance, abandon}
 use Rattle.rules.specs.Calls.{Call, Setup, Open, Read, Write, Advance, Abandon, step, history, told}
 use Rattle.rules.specs.declared.Answer.{Answer}
@@ -97,8 +98,8 @@ module _ (t : Tables) (o s : ℕ) (f : Fine t o s storing) where
   lock-leaves p =
       let g : List ℕ = row (t .seats) s in
       cond-ind Left (ltb (position g) (writes g))
-      (λ _. cond-ind Left (isLocked (getD (t .words) (writeItem g (position g)) 0)) (λ _. aborting 21 (omega arith)) (λ _. plain t _ (Locked _) _ refl refl))
-      (λ _. cond-ind Left (ltb top (commitTime (t .words) g)) (λ _. aborting 24 (omega arith)) (λ _. plain t _ (Timed _) _ refl refl))
+      (λ _. cond-ind Left (isLocked (getD (t .words) (writeItem g (position g)) 0)) (λ _. aborting wordLocked (omega arith)) (λ _. plain t _ (Locked _) _ refl refl))
+      (λ _. cond-ind Left (ltb top (commitTime (t .words) g)) (λ _. aborting timeRunOut (omega arith)) (λ _. plain t _ (Timed _) _ refl refl))
 
   ruled-leaves : phase (row (t .seats) s) ≡ 3 → (v : Verdict) → Leaves t (Advance o s) (ruled t s v)
   unfolding ruled passed passedTo

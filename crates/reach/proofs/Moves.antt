@@ -16,6 +16,8 @@ use Rattle.rules.specs.Places.{length-row}
 use Rattle.rules.specs.Tables.{Tables, answered, tables, withSeats, withWords}
 use Rattle.rules.specs.Answers.{locked}
 use Rattle.rules.specs.Advance.{moved, lockStep, commitTime, timeStep, verdict, checkItem, judged, stretched, passed, ruled, checkStep, passedTo, versionGone}
+use Rattle.rules.specs.Advance.{wordLocked}
+use Rattle.rules.specs.Advance.{timeRunOut}
 use Rattle.rules.specs.Advance.{byWord}
 use Rattle.rules.specs.Advance.{sealStep, effect, storeStep, doneStep, lockPhase, checkPhase, storePhase, advanceIn}
 use Rattle.rules.specs.declared.Answer.{Answer}
@@ -146,7 +148,7 @@ module _ (t : Tables) (s : ℕ) (size : length (t .seats) ≡ seatsLength) (smal
   unfolding lockStep
   lock-ok p b =
       by (isLocked (getD (t .words) (writeItem g (position g)) 0))
-      (λ e. rw e (lets-go t s onAdvance size small u (Aborted 21) (aborts 21) (omega arith)))
+      (λ e. rw e (lets-go t s onAdvance size small u (Aborted wordLocked) (aborts wordLocked) (omega arith)))
       (λ e. rw e (take-lock p b (writeItem g (position g)) _ refl refl e))
 
   timed-ok : phase g ≤ 2 → position g ≡ writes g → (due : ℕ) → ((i : ℕ) → i < reads g → keptWrite g i ≤ due) → due ≤ top →
@@ -177,7 +179,7 @@ module _ (t : Tables) (s : ℕ) (size : length (t .seats) ≡ seatsLength) (smal
       let due : ℕ = commitTime (t .words) g in
       let e : position g ≡ writes g = (let q = early-fits g (u .head) p in omega arith) in
       by (ltb top due)
-      (λ k. rw k (lets-go t s onAdvance size small u (Aborted 24) (aborts 24) (omega arith)))
+      (λ k. rw k (lets-go t s onAdvance size small u (Aborted timeRunOut) (aborts timeRunOut) (omega arith)))
       (λ k. rw k (timed-ok p e due (commit-kept (t .words) g) (ltb-false top due k)))
 
   -- PHASE 3

@@ -10,6 +10,10 @@ use Rattle.rules.specs.declared.Answer.{Answer}
 abbrev pub Lent : Type 0
 Lent = Both (RefT (List ℕ)) (RefT (List ℕ))
 
+-- all three, as what a call requires names them
+abbrev pub lentNow : RefT (List ℕ) → RefT (List ℕ) → RefT (List ℕ) → Tables
+lentNow values words seats = tables (now values) (now words) (now seats)
+
 -- all three, as the call found them; as it left them; and its answer with what it left
 abbrev pub lent : Lent → Lent → Lent → Tables
 lent values words seats = tables (now (values .entry)) (now (words .entry)) (now (seats .entry))

@@ -14,6 +14,8 @@ use Rattle.rules.specs.Layout.{positionAt, row, put, phase, position, reads, wr
 use Rattle.rules.specs.Tables.{Tables, tables}
 use Rattle.rules.specs.Work.{writeNames, writeOf}
 use Rattle.rules.specs.Advance.{moved, checkItem, verdict, judged, stretched, passed, ruled, checkStep, sealStep, checkPhase, isOwn, byWord, isBlocked}
+use Rattle.rules.specs.Advance.{wordBlocked}
+use Rattle.rules.specs.Advance.{versionGone}
 use Rattle.rules.specs.Advance.{passedTo}
 use Rattle.rules.specs.Calls.{Advance}
 use Rattle.rules.specs.declared.Answer.the-variants.{Checked, Sealed}
@@ -156,10 +158,10 @@ module _ (opening : Values) (t : Tables) (b : Observer) (now : Mirrored opening 
     unfolding ruled judged isOwn verdict byWord isBlocked passed passedTo observe onAdvance
     check-stays =
         cond-ind Q (leb (time g) (e .keptRead)) (λ a. pass-mirrored (spanned (omega (arith, keyed, leb-true (time g) (e .keptRead) a))))
-        (λ _. cond-ind Q (not (eqb (writeTime word) (e .keptWrite))) (λ _. abort-stays opening t b now o s last fi 22 (omega arith))
+        (λ _. cond-ind Q (not (eqb (writeTime word) (e .keptWrite))) (λ _. abort-stays opening t b now o s last fi versionGone (omega arith))
         (λ a. let same = eqb-true _ _ (not-false _ a) in
         cond-ind Q (ltb (writeOf g (e .told .item)) (writes g)) (λ c. pass-mirrored (ours (shown .is-wrote ∙ same) (own c)))
-        (λ _. cond-ind Q (isLocked word && leb (readTime word) (time g)) (λ _. abort-stays opening t b now o s last fi 23 (omega arith))
+        (λ _. cond-ind Q (isLocked word && leb (readTime word) (time g)) (λ _. abort-stays opening t b now o s last fi wordBlocked (omega arith))
         (λ u. cond-ind Q (ltb (readTime word) (time g)) (λ c. extend-mirrored same (ltb-true _ _ c) (unblocked (isLocked word) u (ltb-true _ _ c)))
         (λ c. pass-mirrored (reached (shown .is-wrote ∙ same) (omega (arith, keyed, shown .is-upTo, ltb-false (readTime word) (time g) c))))))))
       where

@@ -12,7 +12,7 @@ use Rattle.clock.specs.Word.{top, isLocked, withLock}
 use Rattle.clock.specs.Laws.{write≤read}
 use Rattle.rules.specs.Layout.{timeAt, row, put, phase, position, reads, writes, time, writeItem}
 use Rattle.rules.specs.Tables.{Tables, tables}
-use Rattle.rules.specs.Advance.{moved, commitTime, lockStep, timeStep, lockPhase}
+use Rattle.rules.specs.Advance.{moved, commitTime, lockStep, timeStep, lockPhase, wordLocked, timeRunOut}
 use Rattle.rules.specs.Calls.{Advance}
 use Rattle.rules.specs.declared.Answer.the-variants.{Locked, Timed}
 use Rattle.rows.specs.Fine.{cond-ind, write-item, position-low, Fine, fine-row}
@@ -121,6 +121,6 @@ module _ (opening : Values) (t : Tables) (b : Observer) (now : Mirrored opening 
   lock-stays =
       cond-ind (StaysMirrored opening b (Advance o s)) (ltb (position g) (writes g))
       (λ l. cond-ind (StaysMirrored opening b (Advance o s)) (isLocked (getD (t .words) item 0))
-      (λ _. abort-stays opening t b now o s last fi 21 (omega arith)) (λ u. lock-mirrored (ltb-true _ _ l) u))
+      (λ _. abort-stays opening t b now o s last fi wordLocked (omega arith)) (λ u. lock-mirrored (ltb-true _ _ l) u))
       (λ l. cond-ind (StaysMirrored opening b (Advance o s)) (ltb top (commitTime (t .words) g))
-      (λ _. abort-stays opening t b now o s last fi 24 (omega arith)) (λ _. time-mirrored (omega (arith, low, ltb-false (position g) (writes g) l))))
+      (λ _. abort-stays opening t b now o s last fi timeRunOut (omega arith)) (λ _. time-mirrored (omega (arith, low, ltb-false (position g) (writes g) l))))

@@ -22,7 +22,7 @@ use Rattle.turns.specs.Laws.{turn-nothing, put-nothing}
 use Rattle.tape.specs.declared.Extent.{Extent}
 use Rattle.tape.specs.Lines.{State, turnFrom, further, Fed, ended, behind, fed}
 use Rattle.tape.specs.Inner.{capped, Ran}
-use Rattle.tape.specs.Runs.{turn-good, fed-waits, fed-stops, fed-says}
+use Rattle.tape.specs.Runs.{turn-from-fits, fed-waits, fed-stops, fed-says}
 
 -- SUMS THAT STOP
 abbrev Below : ℕ → ℕ → ℕ → Type 0
@@ -130,7 +130,7 @@ module _ (whole : Fed) (out₀ : List ℕ) (from n : ℕ) (s : State) (t out : L
           let eu : used ≡ u = cc in
           let el : len ≡ length x = cc in
           let er : lent ≡ records = cc in
-          let d = turn-good s t e in
+          let d = turn-from-fits s t e in
           let g′ : Going whole out₀ from (behind x (fed (n - 1) (further s u records t″) (drop u t))) out p =
           rw (fed-says n s t x u records t″ e enough) at g in
           record {

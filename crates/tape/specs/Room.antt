@@ -19,7 +19,7 @@ use Rattle.turns.specs.Turns.{lastRoom, says}
 use Rattle.turns.specs.Laws.{width-small, stop-line}
 use Rattle.tape.specs.declared.Counts.{Counts}
 use Rattle.tape.specs.Lines.{State, turnFrom, further, Fed, behind, fed, endLine}
-use Rattle.tape.specs.Runs.{turn-good, fed-ind}
+use Rattle.tape.specs.Runs.{turn-from-fits, fed-ind}
 use Rattle.tape.specs.Promises.{atFront, roomFor, farOff, unfit}
 
 -- A LAST LINE
@@ -35,10 +35,10 @@ Roomy s t o = length (o .text) ≤ roomFor (length t)
 roomy-says : (s : State) (t x : List ℕ) (used records : ℕ) (t′ : Tables) (o : Fed) → turnFrom s t ≡ says x used records t′
     → Roomy (further s used records t′) (drop used t) o → Roomy s t (behind x o)
 roomy-says s t x used records t′ o e h =
-    let g = turn-good s t e in omega (arith, g .fits, g .within, length-append x (o .text), length-drop used t)
+    let g = turn-from-fits s t e in omega (arith, g .fits, g .within, length-append x (o .text), length-drop used t)
 
 pub text-room : (n : ℕ) (s : State) (t : List ℕ) → length t ≤ n → length (fed n s t .text) ≤ roomFor (length t)
-text-room = fed-ind Roomy (λ s t e. omega arith) (λ s t x e. omega (arith, turn-good s t e .fits)) roomy-says
+text-room = fed-ind Roomy (λ s t e. omega arith) (λ s t x e. omega (arith, turn-from-fits s t e .fits)) roomy-says
 
 -- a text that has room stands at the front
 pub sets-front : (xs l : List ℕ) → length xs ≤ length l → sets l 0 xs ≡ atFront xs l

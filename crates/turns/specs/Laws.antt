@@ -150,18 +150,18 @@ pub record Stops (t x : List ℕ) : Type 0 where
   pub least : lengthSize ≤ length t
   pub fits : length x ≤ lastRoom
 
-abbrev pub Good : ℕ → List ℕ → Turned → Type 0
-Good records t waits = length t < lengthSize + be16 t 0
-Good records t (stops x) = Stops t x
-Good records t (says x used records′ t′) = Says t x records used records′
+abbrev pub TurnFits : ℕ → List ℕ → Turned → Type 0
+TurnFits records t waits = length t < lengthSize + be16 t 0
+TurnFits records t (stops x) = Stops t x
+TurnFits records t (says x used records′ t′) = Says t x records used records′
 
 module _ (n offset records : ℕ) (t : Tables) (rest : List ℕ) where
-  good-body : (k : ℕ) (d : Decoded) → lengthSize + k ≤ length rest → Fits (take k (drop lengthSize rest)) d
-      → Good records rest (bodyTurn n offset records t (take k (drop lengthSize rest)) d)
+  turn-fits-body : (k : ℕ) (d : Decoded) → lengthSize + k ≤ length rest → Fits (take k (drop lengthSize rest)) d
+      → TurnFits records rest (bodyTurn n offset records t (take k (drop lengthSize rest)) d)
   unfolding bodyTurn callTurn
-  good-body k Unknown h f = record { least = omega arith; fits = stop-line unknownKind offset (unfold widthOf widthIn in omega arith) }
-  good-body k Misfit h f = record { least = omega arith; fits = stop-line misfit offset (unfold widthOf widthIn in omega arith) }
-  good-body k (Whole c) h f =
+  turn-fits-body k Unknown h f = record { least = omega arith; fits = stop-line unknownKind offset (unfold widthOf widthIn in omega arith) }
+  turn-fits-body k Misfit h f = record { least = omega arith; fits = stop-line misfit offset (unfold widthOf widthIn in omega arith) }
+  turn-fits-body k (Whole c) h f =
       let b : List ℕ = take k (drop lengthSize rest) in
       let a : Answer = performed records t c b .answer in
       let e : length b ≡ k = length-take-le k (drop lengthSize rest) (omega (arith, length-drop lengthSize rest)) in
@@ -172,18 +172,18 @@ module _ (n offset records : ℕ) (t : Tables) (rest : List ℕ) where
         few = records-few c b records t;
       }
 
-  good-frame : (f : Frame) → Inside rest f → Good records rest (frameTurn n offset records t rest f)
+  turn-fits-frame : (f : Frame) → Inside rest f → TurnFits records rest (frameTurn n offset records t rest f)
   unfolding frameTurn
-  good-frame Nothing h = h
-  good-frame Short h = h
-  good-frame (Body k) h = good-body k (decoded (take k (drop lengthSize rest))) (h .0) (fits (take k (drop lengthSize rest)))
+  turn-fits-frame Nothing h = h
+  turn-fits-frame Short h = h
+  turn-fits-frame (Body k) h = turn-fits-body k (decoded (take k (drop lengthSize rest))) (h .0) (fits (take k (drop lengthSize rest)))
 
-  pub good : Good records rest (turnOf n offset records t rest)
+  pub turn-fits : TurnFits records rest (turnOf n offset records t rest)
   unfolding turnOf
-  good = good-frame (frameOf rest) (inside rest)
+  turn-fits = turn-fits-frame (frameOf rest) (inside rest)
 
-  pub good-as : {T : Turned} → turnOf n offset records t rest ≡ T → Good records rest T
-  good-as e = subst (Good records rest) e good
+  pub turn-fits-as : {T : Turned} → turnOf n offset records t rest ≡ T → TurnFits records rest T
+  turn-fits-as e = subst (TurnFits records rest) e turn-fits
 
 pub turn-nothing : (n offset records : ℕ) (t : Tables) → turnOf n offset records t [] ≡ waits
 unfolding turnOf frameTurn frameOf

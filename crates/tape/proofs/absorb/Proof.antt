@@ -35,12 +35,12 @@ start c = search
 abbrev found : tie.Else1 → Tables
 found c = let a = start c .args in tables (now (a .values)) (now (a .words)) (now (a .seats))
 
-good : (c : tie.Else1) → let a = start c .args in unfitFor (now (a .buf)) (a .from) (a .to) (a .k) (found c) (now (a .out)) ≡ false
-good c = sym (c .before .is-unfit .ensures) ∙ c .if1 .left
+not-unfit : (c : tie.Else1) → let a = start c .args in unfitFor (now (a .buf)) (a .from) (a .to) (a .k) (found c) (now (a .out)) ≡ false
+not-unfit c = sym (c .before .is-unfit .ensures) ∙ c .if1 .left
 
 fitting : (c : tie.Else1) → let a = start c .args in
     Fit (length (now (a .buf))) (a .from) (a .to) (a .k) (length (now (a .values))) (length (now (a .words))) (length (now (a .out)))
-fitting c = fit (good c)
+fitting c = fit (not-unfit c)
 
 part-length : (c : tie.Else1) → let a = start c .args in length (part (now (a .buf)) (a .from) (a .to)) ≡ a .to - a .from
 part-length c =
@@ -106,7 +106,7 @@ returns-2 c =
     (omega (arith, roomy, part-length fine, g .roomy)) (omega (arith, start fine .good)) in
     record {
       done = λ _. record { answer-is = left .answer-is; buffer-is = left .buffer-is; tables-are = left .tables-are; out-is = left .out-is };
-      refused = λ e. absurd (true≢false (sym e ∙ good fine));
+      refused = λ e. absurd (true≢false (sym e ∙ not-unfit fine));
       short = λ e.
           waits-few (now (a .buf)) (now (a .out)) (a .from) (a .to) (a .k) _ (at-feed .feed .result) _ _ ran (g .behind) (g .inside)
           (λ i. omega (arith, bytes .slice-known .given i)) (grown (length p) s p (le-refl (length p)) .wanting (sym (ran .stopped) ∙ e));
