@@ -98,7 +98,8 @@ module _ (t : Tables) (o s : ℕ) (f : Fine t o s storing) where
   lock-leaves p =
       let g : List ℕ = row (t .seats) s in
       cond-ind Left (ltb (position g) (writes g))
-      (λ _. cond-ind Left (isLocked (getD (t .words) (writeItem g (position g)) 0)) (λ _. aborting wordLocked (omega arith)) (λ _. plain t _ (Locked _) _ refl refl))
+      (λ _. cond-ind Left (isLocked (getD (t .words) (writeItem g (position g)) 0))
+      (λ _. aborting wordLocked (omega arith)) (λ _. plain t _ (Locked _) _ refl refl))
       (λ _. cond-ind Left (ltb top (commitTime (t .words) g)) (λ _. aborting timeRunOut (omega arith)) (λ _. plain t _ (Timed _) _ refl refl))
 
   ruled-leaves : phase (row (t .seats) s) ≡ 3 → (v : Verdict) → Leaves t (Advance o s) (ruled t s v)
