@@ -150,19 +150,23 @@ module _ (opening : Values) (t : Tables) (b : Observer) (now : Mirrored opening 
         (writeAt g i, seg-has (writeAt g) (writes g) i h, eqb-true _ _ (first-hit (writeNames g (e .told .item)) (writes g) h))
 
     -- where the read time is below the time, a lock would have been in the way
-    unblocked : (c : Bool) → (c && leb (readTime word) (time g)) ≡ false → readTime word < time g → c ≡ false
-    unblocked false a h = refl
-    unblocked true a h = sym (le-leb (readTime word) (time g) (omega arith)) ∙ a
+    unblocked : isBlocked word (time g) ≡ false → readTime word < time g → isLocked word ≡ false
+    unfolding isBlocked
+    unblocked a h = go (isLocked word) a
+      where
+        go : (c : Bool) → (c && leb (readTime word) (time g)) ≡ false → c ≡ false
+        go false u = refl
+        go true u = sym (le-leb (readTime word) (time g) (omega arith)) ∙ u
 
     check-stays : StaysMirrored opening b (Advance o s) (ruled t s (judged t s))
-    unfolding ruled judged isOwn verdict byWord isBlocked passed passedTo observe onAdvance
+    unfolding ruled judged isOwn verdict byWord passed passedTo observe onAdvance
     check-stays =
         cond-ind Q (leb (time g) (e .keptRead)) (λ a. pass-mirrored (spanned (omega (arith, keyed, leb-true (time g) (e .keptRead) a))))
         (λ _. cond-ind Q (not (eqb (writeTime word) (e .keptWrite))) (λ _. abort-stays opening t b now o s last fi versionGone (omega arith))
         (λ a. let same = eqb-true _ _ (not-false _ a) in
         cond-ind Q (ltb (writeOf g (e .told .item)) (writes g)) (λ c. pass-mirrored (ours (shown .is-wrote ∙ same) (own c)))
-        (λ _. cond-ind Q (isLocked word && leb (readTime word) (time g)) (λ _. abort-stays opening t b now o s last fi wordBlocked (omega arith))
-        (λ u. cond-ind Q (ltb (readTime word) (time g)) (λ c. extend-mirrored same (ltb-true _ _ c) (unblocked (isLocked word) u (ltb-true _ _ c)))
+        (λ _. cond-ind Q (isBlocked word (time g)) (λ _. abort-stays opening t b now o s last fi wordBlocked (omega arith))
+        (λ u. cond-ind Q (ltb (readTime word) (time g)) (λ c. extend-mirrored same (ltb-true _ _ c) (unblocked u (ltb-true _ _ c)))
         (λ c. pass-mirrored (reached (shown .is-wrote ∙ same) (omega (arith, keyed, shown .is-upTo, ltb-false (readTime word) (time g) c))))))))
       where
         Q : Verdict → Type 0
