@@ -17,6 +17,7 @@ pub mod hex;
 pub mod history;
 pub mod lively;
 pub mod load;
+pub mod meaning;
 pub mod monitor;
 pub mod odd;
 pub mod outside;
@@ -26,6 +27,7 @@ pub mod random;
 #[cfg(feature = "engine")]
 pub mod replay;
 pub mod row;
+pub mod source;
 pub mod stored;
 pub mod tables;
 pub mod tape;

@@ -18,14 +18,29 @@ impl fmt::Display for TextError {
     }
 }
 
+/// A call of a text tape: its line, counted from 1, its words as written there, and the call.
+#[derive(Clone, Debug, PartialEq, Eq)]
+pub struct Written {
+    pub line: usize,
+    pub words: String,
+    pub call: TapeCall,
+}
+
+/// The calls of a text tape, each with its line.
+pub fn written(text: &str) -> Result<Vec<Written>, TextError> {
+    let mut written = Vec::new();
+    for (index, line) in text.lines().enumerate() {
+        let line_number = index + 1;
+        let call = parse_line(line).map_err(|what| TextError { line: line_number, what })?;
+        let words = line.split('#').next().unwrap_or_default().trim().to_string();
+        written.extend(call.map(|call| Written { line: line_number, words, call }));
+    }
+    Ok(written)
+}
+
 /// The calls of a text tape.
 pub fn calls(text: &str) -> Result<Vec<TapeCall>, TextError> {
-    let mut calls = Vec::new();
-    for (index, line) in text.lines().enumerate() {
-        let call = parse_line(line).map_err(|what| TextError { line: index + 1, what })?;
-        calls.extend(call);
-    }
-    Ok(calls)
+    Ok(written(text)?.iter().map(|written| written.call).collect())
 }
 
 pub fn to_tape(text: &str) -> Result<Vec<u8>, TextError> {
@@ -39,7 +54,7 @@ pub fn from_tape(tape: &[u8]) -> Result<String, Stop> {
 }
 
 /// The call of one line, or None where the line is blank or a comment.
-fn parse_line(line: &str) -> Result<Option<TapeCall>, String> {
+pub fn parse_line(line: &str) -> Result<Option<TapeCall>, String> {
     let code = line.split('#').next().unwrap_or_default();
     let parts: Vec<&str> = code.split_whitespace().collect();
     match parts[..] {
