@@ -246,12 +246,14 @@ fn no_input_at_all() {
 }
 
 /// Asserts that the lines of the whole calls are told, no last line, and then the error, where an
-/// input gives these bytes and fails. A socket that does not wait fails once it has no more.
+/// input gives these bytes and fails. A socket fails after its last byte, where the other end was
+/// closed with something unread.
 fn says_unread_after(part: &[u8]) {
-    let (mut ours, theirs) = UnixStream::pair().expect("two sockets");
+    let (mut ours, mut theirs) = UnixStream::pair().expect("two sockets");
+    theirs.write_all(b"unread").expect("room for a word");
     ours.set_write_timeout(Some(PATIENCE)).expect("a patience");
     ours.write_all(part).expect("room for the part");
-    theirs.set_nonblocking(true).expect("a socket that does not wait");
+    drop(ours);
     let output = output_from(OwnedFd::from(theirs), part);
     let lines = program::play_bytes(part).expect("memory can be read and written");
     let lines = String::from_utf8(lines).expect("lines are text");

@@ -8,7 +8,7 @@ use Rattle.rules.specs.Layout.{mostRecords}
 use Rattle.rules.specs.Tables.{Tables}
 use Rattle.frames.specs.Decode.{longest}
 use Rattle.tape.specs.Promises.{atFront, part, farOff, roomFor}
-use Rattle.monitor.specs.declared.Input.{Input}
+use Rattle.monitor.specs.declared.Moved.{Moved}
 use Rattle.flow.specs.declared.Flow.{Flow}
 use Rattle.flow.specs.Parts.{stepped}
 use Rattle.flow.specs.Promises.{standOf, Went, closingOf}
@@ -46,7 +46,7 @@ pub record Asked (f : Flow) (buffer : List ℕ) (to : ℕ) (t : Tables) (out : L
   pub within : to ≤ inputLength
 
 -- what was read stands behind the bytes that wait
-pub record Fetched (buffer : List ℕ) (waiting : ℕ) (r : Input) (buffer′ : List ℕ) : Type 0 where
+pub record Fetched (buffer : List ℕ) (waiting : ℕ) (r : Moved) (buffer′ : List ℕ) : Type 0 where
   pub behind : waiting ≤ r .to
   pub within : r .to ≤ length buffer
   pub stays : take waiting buffer′ ≡ take waiting buffer

@@ -6,6 +6,8 @@ ghost use Rattle.rules.specs.Lent.{lentNow, lent, leftTables};
 ghost use Rattle.monitor.specs.Program.{outputLength, Buffers, Fetched, Asked, Pumped, Ended};
 use flow::Flow;
 use frames::LONGEST;
+use libc::EAGAIN;
+use libc::EINTR;
 use libc::STDERR_FILENO;
 use libc::STDIN_FILENO;
 use libc::STDOUT_FILENO;
@@ -22,8 +24,8 @@ const OUTPUT: usize = LINE_ROOM * INPUT + LAST_ROOM;
 // A proved loop has to end, and nothing says that the input does. So many turns, each of a full input buffer, keep every number below FAR_OFF.
 const TURNS: u64 = (FAR_OFF - 1) / (INPUT as u64);
 
-// What a read came to: where the bytes then end, and whether it failed.
-struct Input {
+// What a read or a write came to: how far the bytes then go, and whether it failed.
+struct Moved {
     to: usize,
     failed: bool,
 }
@@ -33,27 +35,84 @@ fn complain(line: &[u8]) {
     io::write_all(STDERR_FILENO, line);
 }
 
+// Whether a read or a write that has just failed is to be made again: a signal came in between, or nothing was ready yet.
+fn is_passing() -> bool {
+    let error = os::errno();
+    if error == EINTR {
+        return true;
+    }
+    if error != EAGAIN {
+        return false;
+    }
+    libc::sched_yield();
+    true
+}
+
+// Writes the bytes of out from `from` to `end` once, and answers how far it came, and whether it failed for good.
+fn write_once(out: &[u8], from: usize, end: usize) -> Moved
+    requires { ⌜ from ≤ end ⌝ }
+    requires { ⌜ end ≤ length (now out) ⌝ }
+    ensures { λ r. ⌜ from ≤ r .to ⌝ }
+    ensures { λ r. ⌜ r .to ≤ end ⌝ }
+{
+    let wrote = libc::write(STDOUT_FILENO, &out[from..end]);
+    if wrote < 0 {
+        return Moved {
+            to: from,
+            failed: !is_passing(),
+        };
+    }
+    let n = io::count(wrote, &out[from..end]);
+    Moved {
+        to: from + n,
+        failed: n == 0,
+    }
+}
+
 // Writes the first `end` bytes of out, and answers whether they could be written.
 fn put(out: &[u8], end: usize) -> bool
     requires { ⌜ end ≤ length (now out) ⌝ }
 {
-    if io::write_all(STDOUT_FILENO, &out[..end]) {
-        return true;
+    let mut done = 0;
+    let mut tries = TURNS;
+    while tries > 0 {
+        if done == end {
+            return true;
+        }
+        let output = write_once(out, done, end);
+        if output.failed {
+            break;
+        }
+        done = output.to;
+        tries -= 1;
     }
     complain(b"monitor: the lines can't be written\n");
     false
 }
 
-// Reads once behind the bytes that wait, which stay. There is room, so that no bytes are the end of the input.
-fn fetch(buf: &mut [u8], waiting: usize) -> Input
+// Reads behind the bytes that wait, which stay. There is room, so that no bytes are the end of the input.
+fn fetch(buf: &mut [u8], waiting: usize) -> Moved
     requires { ⌜ waiting < length (now buf) ⌝ }
     ensures { λ r. ⌜ Fetched (now (buf .entry)) waiting r (now (buf .exit)) ⌝ }
 {
-    let got = libc::read(STDIN_FILENO, &mut buf[waiting..]);
-    let n = io::count(got, &buf[waiting..]);
-    Input {
-        to: waiting + n,
-        failed: got < 0,
+    let mut tries = TURNS;
+    while tries > 0 {
+        let got = libc::read(STDIN_FILENO, &mut buf[waiting..]);
+        if got >= 0 {
+            let n = io::count(got, &buf[waiting..]);
+            return Moved {
+                to: waiting + n,
+                failed: false,
+            };
+        }
+        if !is_passing() {
+            break;
+        }
+        tries -= 1;
+    }
+    Moved {
+        to: waiting,
+        failed: true,
     }
 }
 
@@ -127,11 +186,59 @@ fn output_buffer() -> [u8; OUTPUT]
     [0; OUTPUT]
 }
 
-fn main() {
+fn is_same(a: &[u8], b: &[u8]) -> bool {
+    let mut i = 0;
+    while i < a.len() {
+        if i >= b.len() {
+            return false;
+        }
+        if a[i] != b[i] {
+            return false;
+        }
+        i += 1;
+    }
+    i == b.len()
+}
+
+fn say(line: &[u8]) {
+    io::write_all(STDOUT_FILENO, line);
+}
+
+fn tell_usage() {
+    say(b"usage: monitor < TAPE\n");
+    say(b"Plays a tape of calls, and prints a line to each: its number, a word, a number.\n");
+    say(b"The last line is 'end' and the number of calls, or 'stopped', the fault and its byte.\n");
+    say(b"A text tape is made into a tape by the program tape: tape encode my.txt | monitor\n");
+    say(b"The stack must have a megabyte.\n");
+}
+
+// There is no argument to take but the one that asks how the program is used.
+fn answer_arguments() {
+    let mut word = [0u8; 8];
+    let n = os::arg(1, &mut word);
+    if is_same(&word[..n], b"--help") {
+        tell_usage();
+    } else {
+        complain(
+            b"monitor: it takes no arguments, only a tape on standard input; monitor --help tells more\n",
+        );
+    }
+}
+
+// The tables and buffers are made, lent and played with.
+fn play_input() {
     let mut buf = input_buffer();
     let mut values = [0u64; tape::RECORDS];
     let mut words = [0u64; tape::RECORDS];
     let mut seats = [0u64; tape::SEATS];
     let mut out = output_buffer();
     play(&mut buf, &mut values, &mut words, &mut seats, &mut out);
+}
+
+fn main() {
+    if os::arg_count() > 1 {
+        answer_arguments();
+        return;
+    }
+    play_input();
 }

@@ -1,22 +1,27 @@
--- `monitor::put` meets its contract. Assumes nothing.
-use mathlib.Core.Path.{sym}
-use denote.Ref.{now}
-use lib.Seq.{length-take-le}
+-- `monitor::put` meets its contract: what was written never passes the end. Assumes nothing.
+use Prim.Native.Nat.{_≤_}
+use native.Mathlib.Omega.{arith}
 use borrow.Author.Needs.{needs}
 use Rattle.monitor.proofs.put.Statement.{statement}
 use Rattle.monitor.proofs.put.Tie as tie
 
-slice-aggregate-write-all : tie.Need-slice-aggregate-write-all
-slice-aggregate-write-all c =
-    let start : tie.Start = search in
-    sym (length-take-le (start .args .end) (now (start .args .out)) (start .pre))
+abbrev Inv-loop : tie.InvT-loop
+Inv-loop out end done₀ tries₀ t6 done tries = done ≤ end
+
+abbrev μ-loop : tie.MeasureT-loop
+μ-loop out end done₀ tries₀ t6 done tries = tries
 
 pub put-spec : {M : Type 1} → statement M
 put-spec =
     tie.close
     (tie.spec
-    slice-aggregate-write-all
+    Inv-loop
+    μ-loop
+    (λ c. omega arith)
+    (λ c. search needs)
     (λ c κs. search needs)
+    (λ c. search needs)
+    (λ c. search needs)
     (λ c. search needs)
     (λ c. search needs)
     (λ c κs. search needs)
