@@ -77,18 +77,25 @@ fn an_input_that_is_not_ready_yet() {
     assert!(output.stderr.is_empty());
 }
 
-/// The lines are more than the socket takes at once, and the reader comes late.
+/// All that comes, taken slower than the program tells it.
+fn read_slowly(mut from: impl Read) -> io::Result<Vec<u8>> {
+    let (mut all, mut part) = (Vec::new(), [0; 50_000]);
+    loop {
+        pause();
+        match from.read(&mut part)? {
+            0 => return Ok(all),
+            length => all.extend(&part[..length]),
+        }
+    }
+}
+
 #[test]
 fn an_output_that_is_not_ready_yet() {
     let tape = ORDINARY.tape(100_000);
-    let (mut ours, theirs) = hasty_socket();
+    let (ours, theirs) = hasty_socket();
     let mut command = monitor();
     command.stdin(Stdio::piped()).stdout(OwnedFd::from(theirs)).stderr(Stdio::piped());
-    let reader = thread::spawn(move || {
-        let mut lines = Vec::new();
-        pause();
-        ours.read_to_end(&mut lines).map(|_| lines)
-    });
+    let reader = thread::spawn(move || read_slowly(ours));
     let fed = outside::output(command, PATIENCE, most_lines(&tape), outside::bytes(&tape));
     let output = fed.unwrap_or_else(|error| panic!("{error}"));
     let lines = reader.join().expect("the reader ends").expect("the lines come");
