@@ -1,32 +1,44 @@
 # The commands of this repository: `make help` lists them, by the comments behind two number signs.
 CARGO = cargo
 PACKAGE = --manifest-path harness/Cargo.toml
-HARNESS = $(PACKAGE) --offline --release --quiet
-FAIR = $(PACKAGE) --offline --profile bench-fair --quiet
+BUILD = $(PACKAGE) --target-dir harness/target --offline --quiet
+HARNESS = $(BUILD) --release
+FAIR = $(BUILD) --profile bench-fair
 FEATURES = --features engine,monitor
 
 .DEFAULT_GOAL = help
-.PHONY: help run test quick gate-selftest promises lint bars parts compare host soak mutants bench size
+.PHONY: help run show try install test quick gate-selftest promises lint bars parts compare host soak mutants bench size
+
+# What a user gives is a value and no command: it is taken as written, and reaches a recipe by the environment alone.
+TAPE ?= tapes/tape-x.txt
+PREFIX ?= /usr/local
+SOAK ?= 10
+override TAPE := $(value TAPE)
+override PREFIX := $(value PREFIX)
+override SOAK := $(value SOAK)
+export TAPE PREFIX SOAK
 
 ## To use it
 
 help: ## this list
 	@awk -F ':.*## ' '/^## / { print substr($$0, 4) } /^[a-z-]+:.*## / { printf "  make %-14s %s\n", $$1, $$2 }' Makefile
 
-# A tape as text (.txt), as hex digits (.hex) or as bytes (.tape).
-TAPE = tapes/tape-x.txt
-run: ## the lines of one tape: make run TAPE=tapes/lesson-3.txt
-	@mkdir -p target
-	@test -x target/bin/monitor || echo 'Proving and building the program: some minutes, once.' >&2
-	@rt check monitor > target/run.log 2>&1 || { cat target/run.log; exit 1; }
-	@$(CARGO) build $(HARNESS) --bins
-	@harness/target/release/tape bytes $(TAPE) > target/run.tape
-	@target/bin/monitor < target/run.tape
+run: ## the lines of one tape, as text, hex digits or bytes: make run TAPE=tapes/lesson-3.txt
+	@tools/play run "$$TAPE"
+
+show: ## the same with each call, what its answer means, and totals: make show TAPE=tapes/lesson-3.txt
+	@tools/play show "$$TAPE"
+
+try: ## type calls one by one, and see each answer at once
+	@tools/play try
+
+install: ## monitor, tape, the header and the archive: make install PREFIX=/usr/local
+	@tools/locked tools/install "$$PREFIX"
 
 ## The gate
 
 test: ## every test and every proof: the quick checks, all proofs from nothing, then the comparisons
-	@tools/gate
+	@tools/locked tools/gate
 
 ## The quick checks
 
@@ -42,6 +54,7 @@ promises: ## whether every public function promises one result, and whether this
 lint: ## the layout of every file in Rattle, antt and Rust, and what clippy finds in the Rust
 	rt fmt --check
 	$(CARGO) fmt $(PACKAGE) --check
+	$(CARGO) clippy $(HARNESS) --bins -- -D warnings
 	$(CARGO) clippy $(HARNESS) $(FEATURES) --all-targets -- -D warnings
 
 bars: ## the lines above 160 characters and the chains of more than three `.before`; there must be none
@@ -50,9 +63,7 @@ bars: ## the lines above 160 characters and the chains of more than three `.befo
 ## The comparisons
 
 parts: ## what the Rust and C sides link and run
-	rt check monitor boundary replay
-	rt staticlib boundary
-	rt staticlib replay
+	@tools/locked tools/parts
 
 # Always the program that was just built and the usual seeds, whatever MONITOR and SOAK say outside.
 compare: parts ## the engine and the program beside the second program
@@ -65,9 +76,8 @@ host: parts ## a host in C plays Tape X through the header, and gives one more s
 
 ## Longer checks
 
-SOAK = 10
 soak: parts ## the comparisons with more seeds, and their counts: make soak SOAK=50 takes fifty times the seeds
-	env -u MONITOR SOAK='$(SOAK)' $(CARGO) test $(HARNESS) $(FEATURES) --test engine --test replay --test monitor --test streams -- --nocapture
+	env -u MONITOR $(CARGO) test $(HARNESS) $(FEATURES) --test engine --test replay --test monitor --test streams -- --nocapture
 
 mutants: ## rules edited one by one: a theorem no longer follows
 	tools/mutants
@@ -76,7 +86,7 @@ mutants: ## rules edited one by one: a theorem no longer follows
 
 bench: parts ## the program beside the second program on the same tapes, as a ratio: make bench LONG=1 goes to ten million calls
 	$(CARGO) build $(FAIR) --bins
-	$(CARGO) run $(FAIR) --bin bench -- $(if $(LONG),--long)
+	$(CARGO) run $(FAIR) --bin bench -- $(if $(value LONG),--long)
 
 size: ## lines of code, definitions, laws and answers by crate, the longest line and file, and the chains of `.before`
 	@tools/size
