@@ -58,5 +58,5 @@ fn the_lessons_show_stored_lines() {
         assert_eq!(block.strip_prefix("text\n"), Some(&stored.lines[..]), "{name}");
         lessons += 1;
     }
-    assert_eq!(lessons, 3);
+    assert_eq!(lessons, 5);
 }
