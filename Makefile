@@ -7,7 +7,7 @@ FAIR = $(BUILD) --profile bench-fair
 FEATURES = --features engine,monitor
 
 .DEFAULT_GOAL = help
-.PHONY: help run show try install test quick gate-selftest promises lint bars parts compare host soak mutants bench size
+.PHONY: help run show try install test quick gate-selftest proved-selftest promises lint bars parts compare host soak mutants bench size
 
 # What a user gives is a value and no command: it is taken as written, and reaches a recipe by the environment alone.
 TAPE ?= tapes/tape-x.txt
@@ -42,10 +42,13 @@ test: ## every test and every proof: the quick checks, all proofs from nothing, 
 
 ## The quick checks
 
-quick: gate-selftest promises bars lint ## those with which the gate begins
+quick: gate-selftest proved-selftest promises bars lint ## those with which the gate begins
 
 gate-selftest: ## whether the gate tells green from red
 	tools/gate-selftest
+
+proved-selftest: ## whether what has changed is proved and shown, by one at a time
+	tools/proved-selftest
 
 promises: ## whether every public function promises one result, and whether this check finds one that does not
 	tools/promises
