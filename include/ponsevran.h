@@ -17,7 +17,7 @@
  *         return 0;
  *     }
  *
- * To build it, make the archive (`make parts`: some minutes the first time, since it proves what it builds) and link it:
+ * To build it, make the archive (`make parts`: some minutes the first time, since it proves what it builds) and link it, with gcc or g++:
  *
  *     gcc host.c -Iinclude target/staticlib/libboundary.a
  *
@@ -25,21 +25,25 @@
  *
  *     gcc host.c -I$PREFIX/include -L$PREFIX/lib -lponsevran
  *
- * The tables. The host lends three to every call, each as a pointer and how many numbers of 64 bits it holds.
- *   values  One to a record: what the monitor knows of a lift, an engineer, a parts bin.
- *   words   One to a record, so as many as values: the record's lock and its times. They mean something to the engine alone.
- *   seats   The plan and the seats: exactly PONSEVRAN_SEAT_TABLE numbers.
- * Before Setup, values are the opening values. Words and seats may hold anything: Setup fills them.
- * Any contents and any numbers are answered. From Setup on, let calls alone change words and seats, or calls may be refused for damage.
+ * The archive is for programs on x86-64 Linux.
  *
- * The answer. Each call returns a word, one of enum ponsevran_word, and puts a number into *number. What it is stands beside each word.
- * A refusal changes nothing but *number. An abort changes tables: it ends the alarm call, clears its locks and frees its seat.
+ * The tables. The host lends three to every call, each as a pointer and how many numbers of 64 bits are there.
+ *   values  One to a record: what the monitor knows of a lift, an engineer or a parts bin.
+ *   words   One to a record, so as many as values: its lock and its times. Only the engine reads them.
+ *   seats   The plan, and what each seat has read and is to write: exactly PONSEVRAN_SEAT_TABLE numbers.
+ * Before Setup, values are the opening values, and words and seats may hold anything: Setup fills them. From Setup on, leave all three to the
+ * calls. A call is answered whatever they hold. But shares are kept, and the alarm calls that are done fit one line, only where nothing else
+ * has changed them.
  *
- * What the host sees to, for the engine cannot:
- *   - Each length is true. No pointer is NULL, but that of a table of length 0, which is refused.
+ * The answer. Each call returns a word, one of enum ponsevran_word, and puts a number into *number: what it is stands beside the word.
+ * A refusal changes no table. An abort does: it ends the alarm call, clears its locks and frees its seat.
+ *
+ * What the host sees to, since the engine cannot:
+ *   - Each length is true, and no pointer is NULL. (A table of length 0 may be NULL. It is refused.)
  *   - Nothing lent to a call overlaps anything else lent to it: the three tables, the plan and *number stand apart. Else answers and tables
  *     may be wrong. To set up anew with the plan in force, copy it out of the seat table first.
- *   - Calls on the same tables run one after another. The engine keeps nothing outside the tables, so calls on different tables may run at once.
+ *   - Calls on the same tables come one after another, never two at once. Calls on different tables may run at once, in as many threads as
+ *     you like: the engine keeps nothing outside the tables.
  */
 #ifndef PONSEVRAN_H
 #define PONSEVRAN_H
@@ -47,7 +51,7 @@
 #include <stddef.h>
 #include <stdint.h>
 
-/* How many there are. Each goes by a number from 0, below how many there are: owners, seats, and as many records as are lent. */
+/* How many there are. Each goes by a number, from 0 to one less than there are. Of records there are as many as are lent. */
 #define PONSEVRAN_OWNERS 16
 #define PONSEVRAN_MOST_SEATS 64
 #define PONSEVRAN_MOST_RECORDS 1024
@@ -77,15 +81,15 @@ enum ponsevran_word {
     PONSEVRAN_STORED = 8,   /* Advance: the record; it has its new value, and its lock is cleared */
     PONSEVRAN_DONE = 9,     /* Advance: the time; the seat is free */
     PONSEVRAN_DROPPED = 10, /* Abandon: the seat; it is free, and nothing was written */
-    PONSEVRAN_REFUSED = 11, /* any call: why, one of enum ponsevran_refusal */
-    PONSEVRAN_ABORTED = 12  /* Advance: why, one of enum ponsevran_abort */
+    PONSEVRAN_REFUSED = 11, /* any call: why, one of enum ponsevran_refusal; no table has changed */
+    PONSEVRAN_ABORTED = 12  /* Advance: why, one of enum ponsevran_abort; the seat is free */
 };
 
 /* Why a call is refused. Where several are true, the lowest is told. */
 enum ponsevran_refusal {
     PONSEVRAN_REFUSED_LENGTHS = 1,        /* No records, too many, not as many words as values, or a seat table of another length. */
     PONSEVRAN_REFUSED_OUT_OF_RANGE = 2,   /* There is no such owner, seat or record, or the start is above the greatest time. */
-    PONSEVRAN_REFUSED_DAMAGED = 3,        /* The seat's row or the plan holds what no calls put there. */
+    PONSEVRAN_REFUSED_DAMAGED = 3,        /* The seat's row (for Open: the plan, or any row) holds what calls never put there. */
     PONSEVRAN_REFUSED_NOT_YOURS = 4,      /* The seat is free, or it is another owner's. */
     PONSEVRAN_REFUSED_WRONG_PHASE = 5,    /* Too late: a Read or a Write after the first Advance, or an Abandon once it is sealed. */
     PONSEVRAN_REFUSED_AT_LIMIT = 6,       /* The owner holds as many seats as its limit allows. */
@@ -108,7 +112,8 @@ enum ponsevran_abort {
 extern "C" {
 #endif
 
-/* Setup puts every record at the time start, keeps the plan and frees every seat. Values stay. The plan: a share to each owner, then a limit. */
+/* Setup gives every record the time start, keeps the plan and frees every seat. Values stay. A later Setup begins anew in the same way.
+ * The plan: a share to each owner, then a limit to each. Below its share an owner always gets a seat; at its limit, never. */
 uint64_t ponsevran_setup(const uint64_t *values, size_t values_len, uint64_t *words, size_t words_len, uint64_t *seats, size_t seats_len,
                          uint64_t start, const uint64_t plan[PONSEVRAN_PLAN], uint64_t *number);
 

@@ -7,11 +7,12 @@
 #include "ponsevran.h"
 #include "sentences.h"
 
-/* Tables with room for one too many, and a copy of them. */
+/* Tables with room for one too many of each. */
 struct tables {
     uint64_t values[PONSEVRAN_MOST_RECORDS + 1], words[PONSEVRAN_MOST_RECORDS + 1], seats[PONSEVRAN_SEAT_TABLE + 1];
 };
 
+/* Those that are lent to the calls, and a copy of them. */
 static struct tables lent, kept;
 static uint64_t plan[PONSEVRAN_PLAN], number;
 static size_t records;

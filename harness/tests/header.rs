@@ -337,6 +337,11 @@ fn refuses_each(edits: Vec<Edit>) {
 fn the_header_says_what_the_engine_and_the_second_program_say() {
     let folder = folder_with("as it stands", &header());
     compared(&folder).unwrap_or_else(|error| panic!("{error}"));
+}
+
+#[test]
+fn a_host_in_c_and_in_cpp_finds_every_sentence_of_the_header_true() {
+    let folder = folder_with("hosted", &header());
     hosted(&folder).unwrap_or_else(|error| panic!("{error}"));
 }
 
@@ -353,6 +358,13 @@ fn an_edited_word_of_the_header_is_refused() {
 #[test]
 fn an_edited_call_of_the_header_is_refused() {
     refuses_each(edits_of_calls());
+}
+
+#[test]
+fn the_host_tells_which_sentence_of_the_header_is_not_true() {
+    let wrong = header().replace("MOST_RECORDS 1024", "MOST_RECORDS 1025");
+    let told = "host: the engine does not do as the header says: there are 1 to PONSEVRAN_MOST_RECORDS records\n";
+    assert_eq!(hosted(&folder_with("a wrong sentence", &wrong)), Err(told.to_string()));
 }
 
 /// A number that the header has no reason for would be told to a host that can't name it.

@@ -96,11 +96,15 @@ fn is_module(path: &str, files: &Files) -> bool {
     sources.any(|(_, text)| text.lines().any(declares))
 }
 
+fn assert_none(folder: &str, strays: &[&str]) {
+    assert!(strays.is_empty(), "stray files in {folder}/: {}", strays.join(", "));
+}
+
 #[test]
 fn every_file_of_tapes_goes_with_a_tape() {
     let tapes = files("tapes");
     assert!(tapes.contains_key("faults/31-empty.hex"));
-    assert_eq!(stray_tapes(&tapes), [""; 0]);
+    assert_none("tapes", &stray_tapes(&tapes));
 }
 
 #[test]
@@ -108,7 +112,7 @@ fn every_file_of_the_harness_is_built_or_run() {
     let makefile = fs::read_to_string(stored::file("Makefile")).expect("the Makefile is there");
     let sources = files("harness");
     assert!(sources.contains_key("tests/strays.rs"));
-    assert_eq!(stray_sources(&sources, &makefile), [""; 0]);
+    assert_none("harness", &stray_sources(&sources, &makefile));
 }
 
 fn made_up(files: &[(&str, &str)]) -> Files {
