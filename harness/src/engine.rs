@@ -10,16 +10,13 @@ type Lent = *const u64;
 type LentMut = *mut u64;
 type LentPlan = *const [u64; 2 * OWNERS];
 
-/// A call of the boundary as it is declared here: its name, its parameters and its result. A test
-/// holds it beside the C header and the engine's own source.
+/// A call of the boundary as it is declared here: its name, its parameters, each by its name and
+/// its type, and its result. A test holds it beside the C header and the engine's own source.
 pub struct Declared {
     pub call: &'static str,
-    pub parameters: &'static [Parameter],
+    pub parameters: &'static [(&'static str, &'static str)],
     pub result: &'static str,
 }
-
-/// A parameter's name and its type.
-pub type Parameter = (&'static str, &'static str);
 
 /// Declares the calls of the boundary. All take the three tables first and the answer's number
 /// last; they differ in whether values and words may change, and in the fields between. Nothing

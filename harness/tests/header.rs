@@ -10,7 +10,7 @@ use std::process::{Command, Stdio};
 
 use second::answer::{Abort, Answer, Refusal};
 use second::clock::Widths;
-use second::engine::{ANSWERS, DECLARED, Declared, Parameter};
+use second::engine::{ANSWERS, DECLARED, Declared};
 use second::flat::{MOST_RECORDS, ROW, SEAT_TABLE};
 use second::meaning;
 use second::outside::{self, PATIENCE};
@@ -120,11 +120,16 @@ fn prototypes(header: &str) -> Vec<String> {
 /// A declaration of the harness, as the header would have it.
 fn declared(call: &Declared) -> String {
     assert_eq!(call.result, "u64");
-    let parameters: Vec<String> = call.parameters.iter().map(parameter).collect();
-    format!("uint64_t {}({})", call.call, parameters.join(", "))
+    let parameters = call.parameters.iter().map(|(name, of)| parameter(name, of));
+    prototype(call.call, parameters.collect())
 }
 
-fn parameter(&(name, of): &Parameter) -> String {
+fn prototype(call: &str, parameters: Vec<String>) -> String {
+    format!("uint64_t {call}({})", parameters.join(", "))
+}
+
+/// A parameter of a type of the harness, as the header would have it.
+fn parameter(name: &str, of: &str) -> String {
     match of {
         "u64" => format!("uint64_t {name}"),
         "usize" => format!("size_t {name}"),
@@ -138,9 +143,7 @@ fn parameter(&(name, of): &Parameter) -> String {
 /// What the engine's source exports, as the header would have it.
 fn exported(source: &str) -> Vec<String> {
     let calls = source.split("pub extern \"C\" fn ").skip(1);
-    calls
-        .map(|call| exported_call(call).expect("a call has its parameters and its result"))
-        .collect()
+    calls.map(|call| exported_call(call).expect("parameters and a result")).collect()
 }
 
 fn exported_call(source: &str) -> Option<String> {
@@ -148,22 +151,22 @@ fn exported_call(source: &str) -> Option<String> {
     let (fields, rest) = rest.split_once(") -> ")?;
     assert!(rest.starts_with("u64\n"), "{call} gives no u64");
     let fields = fields.split(",\n").filter_map(|field| field.trim().split_once(": "));
-    let parameters: Vec<String> = fields.map(|(name, of)| exported_field(name, of)).collect();
-    Some(format!("uint64_t {call}({})", parameters.join(", ")))
+    Some(prototype(call, fields.map(|(name, of)| exported_field(name, of)).collect()))
 }
 
+/// A field of the engine's source. A table is lent with its length.
 fn exported_field(name: &str, of: &str) -> String {
     // `record` is a word of the proof language, so the engine's source says `item`.
     let name = if name == "item" { "record" } else { name };
+    let with_length =
+        |table| [parameter(name, table), parameter(&format!("{name}_len"), "usize")].join(", ");
     match of {
-        "u64" => format!("uint64_t {name}"),
-        "&mut u64" => format!("uint64_t *{name}"),
-        "&[u64]" => format!("const uint64_t *{name}, size_t {name}_len"),
-        "&mut [u64]" => format!("uint64_t *{name}, size_t {name}_len"),
-        _ if of == format!("&[u64; {}]", 2 * OWNERS) => {
-            format!("const uint64_t {name}[PONSEVRAN_PLAN]")
-        }
-        _ => panic!("{name}: the header has no type for {of}"),
+        "u64" => parameter(name, "u64"),
+        "&mut u64" => parameter(name, "LentMut"),
+        "&[u64]" => with_length("Lent"),
+        "&mut [u64]" => with_length("LentMut"),
+        _ if of == format!("&[u64; {}]", 2 * OWNERS) => parameter(name, "LentPlan"),
+        _ => panic!("{name}: the harness has no type for {of}"),
     }
 }
 

@@ -41,16 +41,16 @@ fn stray_tapes(files: &Files) -> Vec<&str> {
 /// A text tape stands at the top, a tape with a fault in `faults/`. Each stands beside its lines.
 fn goes_with_a_tape(path: &str, files: &Files) -> bool {
     let Some((name, ending)) = path.rsplit_once('.') else { return false };
-    let tape = match name.strip_prefix("faults/").unwrap_or(name) {
-        name if name.contains('/') => return false,
-        bare if bare == name => "txt",
-        _ => "hex",
+    let tape = match path.rsplit_once('/') {
+        None => "txt",
+        Some(("faults", _)) => "hex",
+        Some(_) => return false,
     };
-    let has = |ending: &str| files.contains_key(&format!("{name}.{ending}"));
+    let stands_beside = |ending: &str| files.contains_key(&format!("{name}.{ending}"));
     match ending {
-        "lines" => has(tape),
-        "shown" => tape == "txt" && has(tape),
-        _ => ending == tape && has("lines"),
+        "lines" => stands_beside(tape),
+        "shown" => tape == "txt" && stands_beside(tape),
+        _ => ending == tape && stands_beside("lines"),
     }
 }
 
