@@ -59,7 +59,7 @@ compare: parts ## the engine and the program beside the second program
 	env -u MONITOR -u SOAK $(CARGO) test $(HARNESS) $(FEATURES)
 
 host: parts ## a host in C and in C++ plays Tape X through the header, and tries every sentence of the header on the engine
-	harness/c/try include target/host
+	harness/c/try include target/header
 
 ## Longer checks
 
