@@ -72,10 +72,8 @@ parts: ## what the Rust and C sides link and run
 compare: parts ## the engine and the program beside the second program
 	env -u MONITOR -u SOAK $(CARGO) test $(HARNESS) $(FEATURES)
 
-host: parts ## a host in C plays Tape X through the header, and gives one more seat back
-	gcc -std=c11 -Wall -Wextra -Werror -Iinclude harness/c/host.c target/staticlib/libboundary.a -o target/host
-	target/host > target/host.lines
-	diff target/host.lines tapes/tape-x.lines
+host: parts ## a host in C and in C++ plays Tape X through the header, and tries every sentence of the header on the engine
+	harness/c/try include target/header
 
 ## Longer checks
 

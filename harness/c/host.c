@@ -1,67 +1,61 @@
-/* A host in C: plays Tape X through the header and prints its lines. Tape X has no Abandon, so one more seat is opened and given back.
- * It ends with 0 where all is well, 1 where the lines can't be written, and 2 where the seat is not given back as it should be. */
+/* A host in C and in C++. It plays Tape X through the header and prints its lines; then it tries every sentence of the header, silently.
+ * It ends with 0 where all is well, 1 where the lines can't be written, and 2 where a sentence is not true of the engine: it tells which. */
 #include <inttypes.h>
 #include <stdio.h>
 
 #include "ponsevran.h"
+#include "sentences.h"
 
-static const char *const SPELLINGS[] = {"ready",  "seat",   "value", "noted",   "locked",  "timed",  "checked",
-                                        "sealed", "stored", "done",  "dropped", "refused", "aborted"};
-
-static uint64_t values[2], words[2], seats[PONSEVRAN_SEATS];
-static uint64_t plan[PONSEVRAN_PLAN];
+static uint64_t values[2], words[2], seats[PONSEVRAN_SEAT_TABLE], plan[PONSEVRAN_PLAN], number;
 static unsigned calls;
 
-static void say(uint64_t spelling, uint64_t number) {
-    printf("%u %s %" PRIu64 "\n", ++calls, SPELLINGS[spelling], number);
+#define TABLES values, 2, words, 2, seats, PONSEVRAN_SEAT_TABLE
+
+static const char *spelling(uint64_t word) {
+    switch ((enum ponsevran_word)word) {
+    case PONSEVRAN_READY: return "ready";
+    case PONSEVRAN_SEAT: return "seat";
+    case PONSEVRAN_VALUE: return "value";
+    case PONSEVRAN_NOTED: return "noted";
+    case PONSEVRAN_LOCKED: return "locked";
+    case PONSEVRAN_TIMED: return "timed";
+    case PONSEVRAN_CHECKED: return "checked";
+    case PONSEVRAN_SEALED: return "sealed";
+    case PONSEVRAN_STORED: return "stored";
+    case PONSEVRAN_DONE: return "done";
+    case PONSEVRAN_DROPPED: return "dropped";
+    case PONSEVRAN_REFUSED: return "refused";
+    case PONSEVRAN_ABORTED: return "aborted";
+    }
+    return "no word of the header";
 }
 
-#define TABLES values, 2, words, 2, seats, PONSEVRAN_SEATS
+/* Prints the line of a call. The call was made before `number` is looked at. */
+static void say(uint64_t word) {
+    printf("%u %s %" PRIu64 "\n", ++calls, spelling(word), number);
+}
 
 static void advance(uint64_t owner, uint64_t seat, unsigned times) {
-    uint64_t number;
-    while (times-- > 0) {
-        uint64_t spelling = ponsevran_advance(TABLES, owner, seat, &number);
-        say(spelling, number);
-    }
+    while (times-- > 0)
+        say(ponsevran_advance(TABLES, owner, seat, &number));
 }
 
-/* Whether the call gives this spelling, and this number in `number`. */
-#define GIVES(call, spelling, carried) ((call) == (spelling) && number == (carried))
-
-/* Abandons seat 0 with a lock held: the record is unlocked again with its times, its value stays, and every row is zero. */
-static int abandons(void) {
-    uint64_t number = 0, value = values[1], word = words[1];
-    if (!GIVES(ponsevran_open(TABLES, 1, &number), PONSEVRAN_SEAT, 0) ||
-        !GIVES(ponsevran_write(TABLES, 1, 0, 1, 9, &number), PONSEVRAN_NOTED, 1) ||
-        !GIVES(ponsevran_advance(TABLES, 1, 0, &number), PONSEVRAN_LOCKED, 1) || words[1] == word)
-        return 0;
-    if (!GIVES(ponsevran_abandon(TABLES, 1, 0, &number), PONSEVRAN_DROPPED, 0) || words[1] != word || values[1] != value)
-        return 0;
-    for (size_t place = PONSEVRAN_PLAN; place < PONSEVRAN_SEATS; place++)
-        if (seats[place] != 0)
-            return 0;
-    return 1;
-}
-
-int main(void) {
-    uint64_t number, spelling;
+static void play_tape_x(void) {
     plan[0] = plan[1] = 1;
-    plan[16] = plan[17] = 2;
-    spelling = ponsevran_setup(TABLES, 2, plan, &number);
-    say(spelling, number);
-    spelling = ponsevran_open(TABLES, 0, &number);
-    say(spelling, number);
-    spelling = ponsevran_open(TABLES, 1, &number);
-    say(spelling, number);
-    spelling = ponsevran_read(TABLES, 0, 0, 0, &number);
-    say(spelling, number);
-    spelling = ponsevran_write(TABLES, 1, 1, 0, 7, &number);
-    say(spelling, number);
+    plan[PONSEVRAN_OWNERS] = plan[PONSEVRAN_OWNERS + 1] = 2;
+    say(ponsevran_setup(TABLES, 2, plan, &number));
+    say(ponsevran_open(TABLES, 0, &number));
+    say(ponsevran_open(TABLES, 1, &number));
+    say(ponsevran_read(TABLES, 0, 0, 0, &number));
+    say(ponsevran_write(TABLES, 1, 1, 0, 7, &number));
     advance(1, 1, 5);
     advance(0, 0, 4);
     printf("end %u\n", calls);
+}
+
+int main(void) {
+    play_tape_x();
     if (fflush(stdout) != 0)
         return 1;
-    return abandons() ? 0 : 2;
+    return sentences_hold() ? 0 : 2;
 }

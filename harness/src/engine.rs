@@ -5,26 +5,50 @@ use crate::call::Call;
 use crate::flat::Flat;
 use crate::plan::{OWNERS, Plan};
 
-/// A table as the boundary takes it: where it starts, and its length.
+/// A table, a place for one number or a plan, as the boundary takes it: where it starts.
 type Lent = *const u64;
 type LentMut = *mut u64;
+type LentPlan = *const [u64; 2 * OWNERS];
+
+/// A call of the boundary as it is declared here: its name, its parameters, each by its name and
+/// its type, and its result. A test holds it beside the C header and the engine's own source.
+pub struct Declared {
+    pub call: &'static str,
+    pub parameters: &'static [(&'static str, &'static str)],
+    pub result: &'static str,
+}
 
 /// Declares the calls of the boundary. All take the three tables first and the answer's number
 /// last; they differ in whether values and words may change, and in the fields between. Nothing
 /// lent to a call may overlap anything else that is lent to it, plan and number included.
 macro_rules! declare {
     ($($call:ident($values:ty, $words:ty $(, $field:ident: $type:ty)*);)*) => {
-        unsafe extern "C" {
-            $(fn $call(
+        declare_whole! {
+            $($call(
                 values: $values, values_len: usize, words: $words, words_len: usize,
-                seats: LentMut, seats_len: usize, $($field: $type,)* number: &mut u64,
+                seats: LentMut, seats_len: usize, $($field: $type,)* number: LentMut,
             ) -> u64;)*
         }
     };
 }
 
+/// Declares them twice from one text: for the linker, and as names that a test can read.
+macro_rules! declare_whole {
+    ($($call:ident($($field:ident: $type:ty,)*) -> $result:ty;)*) => {
+        unsafe extern "C" {
+            $(fn $call($($field: $type,)*) -> $result;)*
+        }
+
+        pub const DECLARED: &[Declared] = &[$(Declared {
+            call: stringify!($call),
+            parameters: &[$((stringify!($field), stringify!($type)),)*],
+            result: stringify!($result),
+        },)*];
+    };
+}
+
 declare! {
-    ponsevran_setup(Lent, LentMut, start: u64, plan: Lent);
+    ponsevran_setup(Lent, LentMut, start: u64, plan: LentPlan);
     ponsevran_open(Lent, Lent, owner: u64);
     ponsevran_read(Lent, Lent, owner: u64, seat: u64, record: u64);
     ponsevran_write(Lent, Lent, owner: u64, seat: u64, record: u64, value: u64);
@@ -53,7 +77,7 @@ macro_rules! lend {
 pub fn answer(tables: &mut Flat, call: &Call) -> Answer {
     match *call {
         Call::Setup { start, plan } => {
-            lend!(ponsevran_setup, tables, start, flat_plan(&plan).as_ptr())
+            lend!(ponsevran_setup, tables, start, &flat_plan(&plan))
         }
         Call::Open { owner } => lend!(ponsevran_open, tables, owner),
         Call::Read { owner, seat, record } => lend!(ponsevran_read, tables, owner, seat, record),
@@ -73,22 +97,24 @@ fn flat_plan(plan: &Plan) -> [u64; 2 * OWNERS] {
     numbers
 }
 
-/// The answer of a spelling's number, as the boundary numbers them, and the number that it carries.
+/// The answers in the order in which the boundary numbers their spellings.
+pub const ANSWERS: [fn(u64) -> Answer; 13] = [
+    Answer::Ready,
+    Answer::Seat,
+    Answer::Value,
+    Answer::Noted,
+    Answer::Locked,
+    Answer::Timed,
+    Answer::Checked,
+    Answer::Sealed,
+    Answer::Stored,
+    Answer::Done,
+    Answer::Dropped,
+    Answer::Refused,
+    Answer::Aborted,
+];
+
+/// The answer of a spelling's number, and the number that it carries.
 fn told(spelling: u64, number: u64) -> Answer {
-    const ANSWERS: [fn(u64) -> Answer; 13] = [
-        Answer::Ready,
-        Answer::Seat,
-        Answer::Value,
-        Answer::Noted,
-        Answer::Locked,
-        Answer::Timed,
-        Answer::Checked,
-        Answer::Sealed,
-        Answer::Stored,
-        Answer::Done,
-        Answer::Dropped,
-        Answer::Refused,
-        Answer::Aborted,
-    ];
     ANSWERS[spelling as usize](number)
 }

@@ -7,7 +7,7 @@ use crate::plan::{OWNERS, Plan, SEATS};
 use crate::row::{READS, ReadEntry, Row, WRITES, WriteEntry};
 use crate::tables::{Record, Tables};
 
-const MOST_RECORDS: usize = 1024;
+pub const MOST_RECORDS: usize = 1024;
 const HEAD: usize = 6;
 const READ_ENTRY: usize = 4;
 const WRITE_ENTRY: usize = 2;
