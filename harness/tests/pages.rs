@@ -1,9 +1,11 @@
 //! The pages name only what is there: their links, the files of the repository, make's commands and
-//! the stored tapes.
+//! the stored tapes. What they say of the answers' numbers is what the programs say.
 
+use std::collections::BTreeSet;
 use std::fs;
 use std::path::Path;
 
+use second::meaning::{ABORTED, REFUSED, STOPPED};
 use second::stored;
 
 /// The folders of the repository. A word of code that begins with one names a file in it.
@@ -141,23 +143,38 @@ fn bad_command(command: &str) -> Vec<String> {
 /// A word after make: a variable with its value, or else a target.
 fn bad_word(makefile: &str, word: &str) -> Option<String> {
     if let Some((variable, _)) = word.split_once('=') {
-        let is_there = makefile.contains(&format!("$({variable})"));
+        let uses = [format!("$({variable})"), format!("$(value {variable})")];
+        let is_there = uses.iter().any(|used| makefile.contains(used));
         return (!is_there).then(|| format!("make {variable}=: there is no such variable"));
     }
     let is_there = makefile.lines().any(|line| line.starts_with(&format!("{word}:")));
     (!is_there && !is_pattern(word)).then(|| format!("make {word}: there is no such target"))
 }
 
-/// The names in the first column of the table of tapes.
-fn tapes_named(page: &str) -> Vec<&str> {
-    let lines = page.lines().skip_while(|line| !line.starts_with("| Tape |"));
-    let rows = lines.take_while(|line| line.starts_with('|'));
-    rows.filter_map(|row| row.split('|').nth(1)).flat_map(|cell| spans(cell).0).collect()
+/// The text tapes that a page names in its code without a folder, as the page of `tapes/` does.
+fn tapes_named(page: &str) -> BTreeSet<&str> {
+    let words = lines(page).into_iter().flat_map(|line| line.code);
+    words.filter(|word| word.ends_with(".txt") && !word.contains(['/', ' '])).collect()
 }
 
-/// Whether there is a tape of this name. It may be the beginning of a longer one, as `p5` is.
-fn is_tape(name: &str, tapes: &[String]) -> bool {
-    tapes.iter().any(|tape| tape == name || tape.starts_with(&format!("{name}-")))
+/// Whether a page that speaks of a document, which is not in the repository, links to the page that
+/// says its rules.
+fn tells_where_documents_are(page: &str, text: &str) -> bool {
+    let speaks = ["document 01", "document 02"].iter().any(|name| {
+        let text = text.to_lowercase();
+        text.contains(name)
+    });
+    !speaks || page == "docs/MONITOR.md" || text.contains("MONITOR.md)")
+}
+
+/// The rows of a table on a page: a number, a sentence and a tape, of those that begin with a number.
+fn numbered_rows(page: &str) -> Vec<(u64, &str, &str)> {
+    let cells = page.lines().map(|line| line.split('|').map(str::trim).collect::<Vec<_>>());
+    let rows = cells.filter_map(|cells| match cells[..] {
+        ["", number, sentence, tape, ""] => Some((number.parse().ok()?, sentence, tape)),
+        _ => None,
+    });
+    rows.collect()
 }
 
 /// The pages: the first one, those of `docs/` and its folders, and the one on tapes.
@@ -189,13 +206,40 @@ fn every_page_names_only_what_is_there() {
 }
 
 #[test]
-fn the_table_of_tapes_names_stored_tapes() {
+fn the_page_on_tapes_names_every_text_tape_and_no_other() {
     let page = read("tapes/README.md");
-    let tapes = stored::names("", "txt").expect("the folder can be read");
-    let named = tapes_named(&page);
-    assert!(!named.is_empty());
-    let missing: Vec<&str> = named.into_iter().filter(|name| !is_tape(name, &tapes)).collect();
-    assert!(missing.is_empty(), "tapes/README.md: there are no such tapes: {missing:?}");
+    let stored = stored::names("", "txt").expect("the folder can be read");
+    let stored: Vec<String> = stored.iter().map(|name| format!("{name}.txt")).collect();
+    assert_eq!(tapes_named(&page), stored.iter().map(String::as_str).collect());
+}
+
+#[test]
+fn every_page_says_where_the_documents_are() {
+    let silent: Vec<String> =
+        pages().into_iter().filter(|page| !tells_where_documents_are(page, &read(page))).collect();
+    assert!(silent.is_empty(), "they do not link to docs/MONITOR.md: {silent:?}");
+    assert!(!tells_where_documents_are("docs/A.md", "Document 01 says so."));
+}
+
+/// The page in plain words has the one sentence of each number, beside a tape that shows it.
+#[test]
+fn every_number_has_its_sentence_and_its_tape() {
+    let page = read("docs/MONITOR.md");
+    let rows = numbered_rows(&page);
+    let meanings = [&REFUSED[..], &ABORTED, &STOPPED].concat();
+    let told: Vec<(u64, &str)> =
+        rows.iter().map(|&(number, sentence, _)| (number, sentence)).collect();
+    assert_eq!(told, meanings);
+    for (number, _, tape) in rows {
+        let Some(tape) = tape.strip_prefix('`').and_then(|tape| tape.strip_suffix('`')) else {
+            assert_eq!(number, 3, "number {number} has no tape");
+            continue;
+        };
+        let name = tape.rsplit_once('.').map_or(tape, |(name, _)| name);
+        let lines = read(&format!("{name}.lines"));
+        let shows = |word: &str| lines.contains(&format!("{word} {number}"));
+        assert!(["refused", "aborted", "stopped"].into_iter().any(shows), "{tape}");
+    }
 }
 
 const MADE_UP: &str = "# A made-up page
@@ -235,13 +279,4 @@ fn what_is_not_there_is_found() {
 fn of_history_only_the_links_are_asked_for() {
     let faults = faults("docs/landings/MADE-UP.md", "`tapes/gone.txt` and [no page](NOWHERE.md)");
     assert_eq!(faults, ["docs/landings/MADE-UP.md: line 1: NOWHERE.md: there is no such file"]);
-}
-
-#[test]
-fn a_tape_goes_by_its_name_or_its_beginning() {
-    let tapes = ["p5-nothing-to-do".to_string(), "tape-x".to_string()];
-    let page = "`no`\n| Tape | Shows |\n|---|---|\n| `p5` to `p6`, `tape-x` | `no` |\n\n| `no` |\n";
-    assert_eq!(tapes_named(page), ["p5", "p6", "tape-x"]);
-    assert!(is_tape("p5", &tapes) && is_tape("tape-x", &tapes));
-    assert!(!is_tape("p", &tapes) && !is_tape("p6", &tapes) && !is_tape("tape-x-", &tapes));
 }

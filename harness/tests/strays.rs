@@ -68,7 +68,7 @@ fn is_used(path: &str, files: &Files, makefile: &str) -> bool {
         "src/bin" => has(files, "Cargo.toml", &format!("path = \"{path}\"")),
         // Cargo makes a test of each.
         "tests" if name.ends_with(".rs") => true,
-        "c" => makefile.contains(&format!("harness/{path}")) || is_of_the_host(name, files),
+        "c" => makefile.contains(&format!("harness/{path}")) || is_built(path, name, files),
         _ => is_module(path, files),
     }
 }
@@ -77,12 +77,14 @@ fn has(files: &Files, path: &str, text: &str) -> bool {
     files.get(path).is_some_and(|file| file.contains(text))
 }
 
-/// Whether the host is built with this file of `c/`: its build names it, or another file includes it.
-fn is_of_the_host(name: &str, files: &Files) -> bool {
-    let included = format!("#include \"{name}\"");
-    let is_included =
-        files.keys().any(|path| path.starts_with("c/") && has(files, path, &included));
-    is_included || has(files, "c/try", &format!("/harness/c/{name}"))
+/// Whether a file of `c/` is built: the host's build or a test names it, or another file includes it.
+fn is_built(path: &str, name: &str, files: &Files) -> bool {
+    let (named, included) = (format!("harness/{path}"), format!("#include \"{name}\""));
+    files.iter().any(|(file, text)| match file.split('/').next() {
+        Some("c") => text.contains(&included) || file == "c/try" && text.contains(&named),
+        Some("tests") => text.contains(&named),
+        _ => false,
+    })
 }
 
 /// Whether a file of Rust in `src/` or `tests/` declares this one as a module.
@@ -144,6 +146,7 @@ fn a_stray_file_of_the_harness_is_named() {
         ("c/host.c", "#include \"host.h\""),
         ("c/host.h", ""),
         ("c/old.c", "/* as host.c */"),
+        ("c/slow.c", ""),
         ("c/try", "gcc top/harness/c/host.c"),
         ("notes", ""),
         ("src/bin/old.rs", ""),
@@ -154,7 +157,7 @@ fn a_stray_file_of_the_harness_is_named() {
         ("src/tape.rs", ""),
         ("tests/common/mod.rs", ""),
         ("tests/old/mod.rs", ""),
-        ("tests/tape.rs", "mod common;"),
+        ("tests/tape.rs", "mod common;\nbuilt(\"harness/c/slow.c\")"),
         ("tests/tape.txt", ""),
     ]);
     let strays =

@@ -22,19 +22,19 @@ fn output(command: Command, tape: &[u8], feed: impl FnOnce() -> io::Result<()> +
     output.unwrap_or_else(|error| panic!("{error}"))
 }
 
-/// A library that fails reads and writes, built from the file of this name in `harness/c/`.
-fn built(name: &str) -> PathBuf {
-    let library = Path::new(env!("CARGO_TARGET_TMPDIR")).join(format!("{name}.so"));
+/// The library that fails reads and writes, built from its source.
+fn interrupted() -> PathBuf {
+    let library = Path::new(env!("CARGO_TARGET_TMPDIR")).join("interrupted.so");
     let mut compiler = Command::new("gcc");
     compiler.args(["-std=gnu11", "-Wall", "-Wextra", "-Werror", "-shared", "-fPIC", "-o"]);
-    compiler.arg(&library).arg(stored::file(&format!("harness/c/{name}.c")));
-    assert!(compiler.status().expect("gcc is there").success(), "{name}.c");
+    compiler.arg(&library).arg(stored::file("harness/c/interrupted.c"));
+    assert!(compiler.status().expect("gcc is there").success());
     library
 }
 
 #[test]
 fn interrupted_calls_are_made_again() {
-    let library = built("interrupted");
+    let library = interrupted();
     for tape in [vec![], vec![1], ORDINARY.tape(100), ORDINARY.tape(100_000)] {
         let mut command = monitor();
         command.env("LD_PRELOAD", &library);
