@@ -1,6 +1,6 @@
 //! A tape written as hex digits, for the bytes that a text tape has no call for.
 
-use crate::line::{self, TextErrors, shown};
+use crate::line::{self, TextErrors, begins_with_0x, shown};
 
 /// The word that a file of hex digits may begin with.
 pub const MARK: &str = "hex";
@@ -38,7 +38,7 @@ fn pairs(word: &str) -> Result<Vec<u8>, String> {
 /// A text tape that begins with a digit by mistake is met here too.
 fn no_digits(word: &str) -> String {
     let found = shown(word);
-    if word.starts_with("0x") || word.starts_with("0X") {
+    if begins_with_0x(word) {
         return format!("'{found}' begins with 0x: write the hex digits alone");
     }
     format!(

@@ -88,7 +88,9 @@ pub fn words(line: &str) -> Result<Vec<&str>, String> {
     }
     let words: Vec<&str> = code(line).split_whitespace().collect();
     match words.iter().find(|word| word.contains(COMMAS)) {
-        Some(word) => Err(format!("'{}' has a comma: put a space in its place", shown(word))),
+        Some(word) => {
+            Err(format!("'{}' has a comma: put spaces between numbers, and no commas", shown(word)))
+        }
         None => Ok(words),
     }
 }
@@ -105,6 +107,11 @@ fn told_unseen(unseen: char) -> String {
             .to_string();
     }
     format!("the character {} can't be seen: take it out", unseen.escape_debug())
+}
+
+/// Whether a word begins as hex digits do in many programs, but not here.
+pub fn begins_with_0x(word: &str) -> bool {
+    word.starts_with("0x") || word.starts_with("0X")
 }
 
 /// A word as an error shows it: shortened, and without characters that can't be seen.

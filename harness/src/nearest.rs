@@ -1,17 +1,18 @@
 //! The nearest word to one that was mistyped.
 
-/// The one of these words that the mistyped one is nearest to, if one is near: no more than one
-/// slip in three letters.
+/// The one of these words that is nearest to the mistyped one, with at most one slip in three
+/// letters. None where all are further off.
 pub fn nearest<'a>(mistyped: &str, words: &[&'a str]) -> Option<&'a str> {
-    let mistyped: Vec<char> = mistyped.chars().flat_map(char::to_lowercase).collect();
+    let letters = |word: &str| -> Vec<char> { word.to_lowercase().chars().collect() };
+    let mistyped = letters(mistyped);
     let near = words.iter().filter_map(|&word| {
-        let letters: Vec<char> = word.chars().collect();
-        let most = mistyped.len().max(letters.len()) / 3;
-        // The lengths first, so that a very long word costs nothing.
-        let slips = (mistyped.len().abs_diff(letters.len()) <= most)
-            .then(|| slips(&mistyped, &letters))
-            .filter(|&slips| slips <= most)?;
-        Some((slips, word))
+        let word_letters = letters(word);
+        let most = mistyped.len().max(word_letters.len()) / 3;
+        // A very long word is far off by its length, and is not compared.
+        if mistyped.len().abs_diff(word_letters.len()) > most {
+            return None;
+        }
+        Some((slips(&mistyped, &word_letters), word)).filter(|&(slips, _)| slips <= most)
     });
     near.min_by_key(|&(slips, _)| slips).map(|(_, word)| word)
 }

@@ -1,6 +1,6 @@
 //! The numbers of a text tape: what each is for, and the one way to write it.
 
-use crate::line::shown;
+use crate::line::{begins_with_0x, shown};
 
 /// What a number is for, and which numbers are of use there.
 pub struct Field {
@@ -52,7 +52,7 @@ fn why_no_number(word: &str) -> &'static str {
     if word.split_once('.').is_some_and(|(whole, part)| is_digits(whole) && is_digits(part)) {
         return "has a decimal point, and numbers are whole";
     }
-    if word.starts_with("0x") || word.starts_with("0X") {
+    if begins_with_0x(word) {
         return "begins with 0x, and numbers are written with the digits 0 to 9 alone";
     }
     if word.chars().all(char::is_numeric) {

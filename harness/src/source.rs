@@ -47,32 +47,36 @@ pub fn source(bytes: Vec<u8>) -> Result<Source, Vec<String>> {
     text::written(text).map(Source::Text).map_err(|errors| errors.told())
 }
 
-/// The text in these bytes, or why a person's text is not in them.
+/// The text in these bytes, or why they hold none.
 fn to_text(bytes: &[u8]) -> Result<&str, String> {
-    let told = |line, what: &str| Err(TextError { line, what: what.to_string() }.to_string());
-    if bytes.is_empty() {
+    let Some(&first) = bytes.first() else {
         return Err(format!("the file is empty: {BEGINNINGS}"));
-    }
+    };
     if bytes.starts_with(b"\xef\xbb\xbf") {
-        return told(1, "the file begins with a byte order mark: save it as UTF-8 without one");
+        let what = "the file begins with a byte order mark: save it as UTF-8 without one";
+        return Err(told(1, what));
     }
     if is_utf_16(bytes) {
-        return told(1, "the file is UTF-16: save it as UTF-8");
+        return Err(told(1, "the file is UTF-16: save it as UTF-8"));
     }
-    if is_control(bytes[0]) {
+    if is_control(first) {
         return Err(no_tape(bytes));
     }
-    let error = match str::from_utf8(bytes) {
-        Ok(text) => return Ok(text),
-        Err(error) => error,
-    };
+    str::from_utf8(bytes).map_err(|error| not_utf_8(bytes, error.valid_up_to()))
+}
+
+/// What is told of bytes that are UTF-8 only up to here.
+fn not_utf_8(bytes: &[u8], valid: usize) -> String {
     if bytes.iter().any(|&byte| is_control(byte)) {
-        return Err(no_tape(bytes));
+        return no_tape(bytes);
     }
-    let (before, rest) = bytes.split_at(error.valid_up_to());
-    let line = 1 + before.iter().filter(|&&byte| byte == b'\n').count();
-    let byte = rest[0];
-    told(line, &format!("byte {byte:02X} is not UTF-8, perhaps Latin-1: save the file as UTF-8"))
+    let line = 1 + bytes[..valid].iter().filter(|&&byte| byte == b'\n').count();
+    let what = "is not UTF-8, perhaps Latin-1: save the file as UTF-8";
+    told(line, &format!("byte {:02X} {what}", bytes[valid]))
+}
+
+fn told(line: usize, what: &str) -> String {
+    TextError { line, what: what.to_string() }.to_string()
 }
 
 /// Whether a text is in UTF-16, by its mark or by the zero bytes of its first two letters.

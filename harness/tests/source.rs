@@ -79,7 +79,10 @@ fn what_is_no_hex_digit_is_told() {
     assert_eq!(error("01 open 0"), format!("line 1: 'open' {read_as}"));
     assert_eq!(error("hex\n01 hex"), format!("line 2: 'hex' {read_as}"));
     assert_eq!(error("0x01"), "line 1: '0x01' begins with 0x: write the hex digits alone");
-    assert_eq!(error("01,02"), "line 1: '01,02' has a comma: put a space in its place");
+    assert_eq!(
+        error("01,02"),
+        "line 1: '01,02' has a comma: put spaces between numbers, and no commas"
+    );
     assert_eq!(
         error("hex\n０１\n\n01 zz yy\n"),
         format!("line 2: '０１' {read_as}\nline 4: 'zz' {read_as}")

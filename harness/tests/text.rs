@@ -143,9 +143,9 @@ fn a_word_that_is_no_number_is_told_with_the_reason() {
 
 #[test]
 fn a_comma_is_told_before_anything_else() {
-    told("read 0,1,2", "'0,1,2' has a comma: put a space in its place");
-    told("read 0, 1, x", "'0,' has a comma: put a space in its place");
-    told("open，0", "'open，0' has a comma: put a space in its place");
+    told("read 0,1,2", "'0,1,2' has a comma: put spaces between numbers, and no commas");
+    told("read 0, 1, x", "'0,' has a comma: put spaces between numbers, and no commas");
+    told("open，0", "'open，0' has a comma: put spaces between numbers, and no commas");
     assert!(text::to_tape("open 0 # once, and again").is_ok());
 }
 
