@@ -22,19 +22,16 @@ pub const LIMIT: Field = Field { name: "limit", range: "limits are 0 to 64" };
 /// it, and a lesson may want to show that.
 pub fn number<T: TryFrom<u64>>(field: &Field, word: &str) -> Result<T, String> {
     let Field { name, range } = field;
-    let found = shown(word);
     if !is_digits(word) {
-        return Err(format!("{name} '{found}' {}: {range}", why_no_number(word)));
+        return Err(format!("{name} '{}' {}: {range}", shown(word), why_no_number(word)));
     }
-    let number = word.parse::<u64>().ok();
-    let fitting = number.and_then(|number| Some((number, T::try_from(number).ok()?)));
-    match fitting {
-        None => Err(format!("{name} {found}: {range}")),
-        Some((number, _)) if number.to_string() != word => {
-            Err(format!("{name} {found}: write it as {number}"))
-        }
-        Some((_, fitting)) => Ok(fitting),
+    let too_great = || format!("{name} {}: {range}", shown(word));
+    let number: u64 = word.parse().map_err(|_| too_great())?;
+    let fitting = T::try_from(number).map_err(|_| too_great())?;
+    if number.to_string() != word {
+        return Err(format!("{name} {}: write it as {number}", shown(word)));
     }
+    Ok(fitting)
 }
 
 fn is_digits(word: &str) -> bool {

@@ -92,7 +92,7 @@ fn parse_call(name: &str, fields: &[&str]) -> Result<TapeCall, String> {
     }
 }
 
-/// Why a name with so many words after it is no call but a Setup.
+/// Why a name with so many words after it is none of the calls that take numbers alone.
 fn wrong_call(name: &str, given: usize) -> String {
     let (takes, example) = match name {
         "open" => ("one number, the owner", "open 0"),

@@ -77,7 +77,7 @@ fn what_is_no_hex_digit_is_told() {
         "line 1: '1' has a digit too few or too many: a byte is two hex digits"
     );
     assert_eq!(error("01 open 0"), format!("line 1: 'open' {read_as}"));
-    assert_eq!(error("hex\n01 hex"), format!("line 2: 'hex' {read_as}"));
+    assert_eq!(error("hex\nhex 01"), format!("line 2: 'hex' {read_as}"));
     assert_eq!(error("0x01"), "line 1: '0x01' begins with 0x: write the hex digits alone");
     assert_eq!(
         error("01,02"),
@@ -152,34 +152,13 @@ fn stored_tapes_are_of_the_kind_that_their_ending_says() {
     }
 }
 
-const PIECES: [&[u8]; 22] = [
-    b"open 0",
-    b"open",
-    b" ",
-    b"\n",
-    b"\n",
-    b"\r",
-    b"\r\n",
-    b"#",
-    b"hex",
-    b"01",
-    b"00 02 01",
-    b"f",
-    b"0x",
-    b"\x01",
-    b"\0",
-    b"\x07",
-    b"\xe9",
-    b"\xff\xfe",
-    b"\xef\xbb\xbf",
-    b"o\0p\0",
-    b"\xc3\xa9",
-    b"\xe2\x82",
-];
+/// Pieces of which tapes of all kinds, and files that are none, can be made.
+const PIECES: &[u8] = b"open 0|open| |\n|\n|\r|\r\n|#|hex|01|00 02 01|f|0x|\x01|\0|\x07|o\0p\0|\
+                        \xe9|\xff\xfe|\xef\xbb\xbf|\xc3\xa9|\xe2\x82";
 
 fn random_file(random: &mut Random) -> Vec<u8> {
-    let pieces: Vec<&[u8]> = (0..random.below(10)).filter_map(|_| random.pick(&PIECES)).collect();
-    pieces.concat()
+    let pieces: Vec<&[u8]> = PIECES.split(|&byte| byte == b'|').collect();
+    (0..random.below(10)).filter_map(|_| random.pick(&pieces)).collect::<Vec<_>>().concat()
 }
 
 #[test]
