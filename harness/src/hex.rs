@@ -1,23 +1,48 @@
 //! A tape written as hex digits, for the bytes that a text tape has no call for.
 
-use crate::text::TextError;
+use crate::line::{self, TextErrors, begins_with_0x, shown};
 
-/// The bytes of the digits. Spaces may stand between bytes, and '#' begins a comment.
-pub fn to_bytes(text: &str) -> Result<Vec<u8>, TextError> {
-    let mut bytes = Vec::new();
-    for (index, line) in text.lines().enumerate() {
-        let digits = line.split('#').next().unwrap_or_default();
-        for group in digits.split_whitespace() {
-            let what = || format!("'{group}' is not made of pairs of hex digits");
-            let more = pairs(group).ok_or_else(|| TextError { line: index + 1, what: what() })?;
-            bytes.extend(more);
-        }
-    }
-    Ok(bytes)
+/// The word that a file of hex digits may begin with.
+pub const MARK: &str = "hex";
+
+/// Whether a text is one of hex digits: its first word is `hex`, or begins with a digit.
+pub fn is_hex(text: &str) -> bool {
+    let first = line::first_word(text);
+    first.is_some_and(|word| word == MARK || word.starts_with(|first: char| first.is_ascii_digit()))
 }
 
-fn pairs(group: &str) -> Option<Vec<u8>> {
-    let digits: Option<Vec<u32>> = group.chars().map(|digit| digit.to_digit(16)).collect();
-    let digits = digits.filter(|digits| digits.len().is_multiple_of(2))?;
-    Some(digits.chunks(2).map(|pair| (pair[0] * 16 + pair[1]) as u8).collect())
+/// The bytes of the digits. Spaces may stand between bytes, and '#' begins a remark.
+pub fn to_bytes(text: &str) -> Result<Vec<u8>, TextErrors> {
+    let mut begun = false;
+    let lines = line::each(text, |_, content| {
+        let words = line::words(content)?;
+        let mark = usize::from(!begun && words.first() == Some(&MARK));
+        begun |= !words.is_empty();
+        words[mark..].iter().map(|word| pairs(word)).collect::<Result<Vec<_>, _>>()
+    })?;
+    Ok(lines.concat().concat())
+}
+
+fn pairs(word: &str) -> Result<Vec<u8>, String> {
+    let digits: Option<Vec<u32>> = word.chars().map(|digit| digit.to_digit(16)).collect();
+    let Some(digits) = digits else {
+        return Err(no_digits(word));
+    };
+    if !digits.len().is_multiple_of(2) {
+        let found = shown(word);
+        return Err(format!("'{found}' has a digit too few or too many: a byte is two hex digits"));
+    }
+    Ok(digits.chunks(2).map(|pair| (pair[0] * 16 + pair[1]) as u8).collect())
+}
+
+/// A text tape that begins with a digit by mistake is met here too.
+fn no_digits(word: &str) -> String {
+    let found = shown(word);
+    if begins_with_0x(word) {
+        return format!("'{found}' begins with 0x: write the hex digits alone");
+    }
+    format!(
+        "'{found}' is no byte, and this file is read as hex digits: \
+         a byte is two of 0 to 9 and a to f"
+    )
 }

@@ -1,10 +1,11 @@
 //! The stored tapes: the files of `tapes/`, each beside the lines that it must give.
 
+use std::fmt;
 use std::fs;
 use std::io;
 use std::path::{Path, PathBuf};
 
-use crate::{hex, text};
+use crate::source::source;
 
 /// A tape in the repository. Its name is its path below `tapes/`, without the ending.
 #[derive(Clone, Debug, PartialEq, Eq)]
@@ -22,13 +23,10 @@ pub fn file(path: &str) -> PathBuf {
 /// Every tape: the text tapes, and the tapes with faults in hex digits.
 pub fn all() -> io::Result<Vec<Stored>> {
     let mut stored = Vec::new();
-    for name in names("", "txt")? {
-        let tape = text::to_tape(&read(&name, "txt")?);
-        stored.push(beside_its_lines(name, tape)?);
-    }
-    for name in names("faults/", "hex")? {
-        let tape = hex::to_bytes(&read(&name, "hex")?);
-        stored.push(beside_its_lines(name, tape)?);
+    for (folder, ending) in [("", "txt"), ("faults/", "hex")] {
+        for name in names(folder, ending)? {
+            stored.push(beside_its_lines(name, ending)?);
+        }
     }
     Ok(stored)
 }
@@ -47,14 +45,15 @@ pub fn names(folder: &str, ending: &str) -> io::Result<Vec<String>> {
     Ok(names)
 }
 
-fn read(name: &str, ending: &str) -> io::Result<String> {
-    let path = file(&format!("tapes/{name}.{ending}"));
-    let named = |error| io::Error::other(format!("tapes/{name}.{ending}: {error}"));
-    fs::read_to_string(path).map_err(named)
+/// The ending has found the file. What the file holds is told by its content.
+fn beside_its_lines(name: String, ending: &str) -> io::Result<Stored> {
+    let (path, beside) = (format!("tapes/{name}.{ending}"), format!("tapes/{name}.lines"));
+    let bytes = fs::read(file(&path)).map_err(|error| named(&path, error))?;
+    let held = source(bytes).map_err(|errors| named(&path, errors.join("; ")))?;
+    let lines = fs::read_to_string(file(&beside)).map_err(|error| named(&beside, error))?;
+    Ok(Stored { name, tape: held.tape(), lines })
 }
 
-fn beside_its_lines(name: String, tape: Result<Vec<u8>, text::TextError>) -> io::Result<Stored> {
-    let tape = tape.map_err(|error| io::Error::other(format!("tapes/{name}: {error}")))?;
-    let lines = read(&name, "lines")?;
-    Ok(Stored { name, tape, lines })
+fn named(path: &str, error: impl fmt::Display) -> io::Error {
+    io::Error::other(format!("{path}: {error}"))
 }

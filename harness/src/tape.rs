@@ -4,6 +4,7 @@ use std::fmt;
 use std::io::{self, BufReader, Read};
 
 use crate::call::Call;
+use crate::meaning::{STOPPED, meaning};
 use crate::plan::{OWNERS, Plan};
 
 pub const VERSION: u8 = 1;
@@ -140,13 +141,8 @@ impl Fault {
 
 impl fmt::Display for Fault {
     fn fmt(&self, f: &mut fmt::Formatter<'_>) -> fmt::Result {
-        let what = match self.kind {
-            FaultKind::NoVersion => "there is no version byte 1",
-            FaultKind::CutShort => "the call is cut short",
-            FaultKind::WrongLength => "the length is wrong for the call's kind",
-            FaultKind::UnknownKind => "the call's kind is unknown",
-        };
-        write!(f, "bad tape, fault {} at byte {}: {what}", self.number(), self.offset)
+        let sentence = meaning(&STOPPED, self.number()).unwrap_or_default();
+        write!(f, "stopped {} at byte {}: {sentence}", self.number(), self.offset)
     }
 }
 
@@ -226,13 +222,19 @@ impl<R: Read> TapeReader<R> {
     }
 }
 
+/// Gives each call of a tape on, up to the tape's end or its fault.
+pub fn each_call(tape: &[u8], mut take: impl FnMut(TapeCall)) -> Result<(), Stop> {
+    let mut reader = TapeReader::new(tape)?;
+    while let Some(call) = reader.next_call()? {
+        take(call);
+    }
+    Ok(())
+}
+
 /// All calls of a tape without faults.
 pub fn calls(tape: &[u8]) -> Result<Vec<TapeCall>, Stop> {
-    let mut reader = TapeReader::new(tape)?;
     let mut calls = Vec::new();
-    while let Some(call) = reader.next_call()? {
-        calls.push(call);
-    }
+    each_call(tape, |call| calls.push(call))?;
     Ok(calls)
 }
 

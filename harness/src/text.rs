@@ -2,21 +2,17 @@
 
 use std::fmt;
 
+use crate::hex;
+use crate::line::{self, TextErrors, shown};
+use crate::nearest::nearest;
+use crate::number::{COUNT, Field, LIMIT, OWNER, RECORD, SEAT, SHARE, START, VALUE, number};
 use crate::plan::OWNERS;
 use crate::tape::{self, Stop, TapeCall};
 
-/// What is wrong with a text tape, and in which line, counted from 1.
-#[derive(Clone, Debug, PartialEq, Eq)]
-pub struct TextError {
-    pub line: usize,
-    pub what: String,
-}
-
-impl fmt::Display for TextError {
-    fn fmt(&self, f: &mut fmt::Formatter<'_>) -> fmt::Result {
-        write!(f, "line {}: {}", self.line, self.what)
-    }
-}
+/// The names of the calls.
+const CALLS: [&str; 6] = ["setup", "open", "read", "write", "advance", "abandon"];
+/// A good Setup, to write another by.
+const A_SETUP: &str = "setup 2 start 0 shares 1 1 limits 2 2";
 
 /// A call of a text tape: its line, counted from 1, its words as written there, and the call.
 #[derive(Clone, Debug, PartialEq, Eq)]
@@ -27,112 +23,176 @@ pub struct Written {
 }
 
 /// The calls of a text tape, each with its line.
-pub fn written(text: &str) -> Result<Vec<Written>, TextError> {
-    let mut written = Vec::new();
-    for (index, line) in text.lines().enumerate() {
-        let line_number = index + 1;
-        let call = parse_line(line).map_err(|what| TextError { line: line_number, what })?;
-        let words = line.split('#').next().unwrap_or_default().trim().to_string();
-        written.extend(call.map(|call| Written { line: line_number, words, call }));
-    }
-    Ok(written)
+pub fn written(text: &str) -> Result<Vec<Written>, TextErrors> {
+    let lines = line::each(text, |line, content| {
+        let words = line::code(content).to_string();
+        Ok(parse_line(content)?.map(|call| Written { line, words, call }))
+    })?;
+    Ok(lines.into_iter().flatten().collect())
 }
 
 /// The calls of a text tape.
-pub fn calls(text: &str) -> Result<Vec<TapeCall>, TextError> {
+pub fn calls(text: &str) -> Result<Vec<TapeCall>, TextErrors> {
     Ok(written(text)?.iter().map(|written| written.call).collect())
 }
 
-pub fn to_tape(text: &str) -> Result<Vec<u8>, TextError> {
+pub fn to_tape(text: &str) -> Result<Vec<u8>, TextErrors> {
     Ok(tape::encode(&calls(text)?))
 }
 
-/// The canonical text of a tape without faults.
-pub fn from_tape(tape: &[u8]) -> Result<String, Stop> {
-    let calls = tape::calls(tape)?;
-    Ok(calls.iter().map(|call| format!("{call}\n")).collect())
+/// A tape as canonical text. Where the tape stops before its end, a remark after the calls says
+/// why, and so does `stop`.
+#[derive(Debug)]
+pub struct Decoded {
+    pub text: String,
+    pub stop: Option<Stop>,
 }
 
-/// The call of one line, or None where the line is blank or a comment.
+/// The text of a tape, good or faulty.
+pub fn from_tape(tape: &[u8]) -> Decoded {
+    let mut text = String::new();
+    let stop = tape::each_call(tape, |call| text += &format!("{call}\n")).err();
+    if let Some(stop) = &stop {
+        text += &format!("# {stop}\n");
+    }
+    Decoded { text, stop }
+}
+
+/// The call of one line, or None where the line is blank or a remark.
 pub fn parse_line(line: &str) -> Result<Option<TapeCall>, String> {
-    let code = line.split('#').next().unwrap_or_default();
-    let parts: Vec<&str> = code.split_whitespace().collect();
-    match parts[..] {
+    let words = line::words(line)?;
+    match words[..] {
         [] => Ok(None),
-        ["setup", ref fields @ ..] => parse_setup(fields).map(Some),
+        ["setup", ref fields @ ..] => Fields(fields).setup().map(Some),
         [name, ref fields @ ..] => parse_call(name, fields).map(Some),
     }
 }
 
 fn parse_call(name: &str, fields: &[&str]) -> Result<TapeCall, String> {
     match (name, fields) {
-        ("open", &[owner]) => Ok(TapeCall::Open { owner: number("owner", owner)? }),
+        ("open", &[owner]) => Ok(TapeCall::Open { owner: number(&OWNER, owner)? }),
         ("read", &[owner, seat, record]) => Ok(TapeCall::Read {
-            owner: number("owner", owner)?,
-            seat: number("seat", seat)?,
-            record: number("record", record)?,
+            owner: number(&OWNER, owner)?,
+            seat: number(&SEAT, seat)?,
+            record: number(&RECORD, record)?,
         }),
         ("write", &[owner, seat, record, value]) => Ok(TapeCall::Write {
-            owner: number("owner", owner)?,
-            seat: number("seat", seat)?,
-            record: number("record", record)?,
-            value: number("value", value)?,
+            owner: number(&OWNER, owner)?,
+            seat: number(&SEAT, seat)?,
+            record: number(&RECORD, record)?,
+            value: number(&VALUE, value)?,
         }),
         ("advance", &[owner, seat]) => {
-            Ok(TapeCall::Advance { owner: number("owner", owner)?, seat: number("seat", seat)? })
+            Ok(TapeCall::Advance { owner: number(&OWNER, owner)?, seat: number(&SEAT, seat)? })
         }
         ("abandon", &[owner, seat]) => {
-            Ok(TapeCall::Abandon { owner: number("owner", owner)?, seat: number("seat", seat)? })
+            Ok(TapeCall::Abandon { owner: number(&OWNER, owner)?, seat: number(&SEAT, seat)? })
         }
-        _ => Err(wrong_call(name)),
+        _ => Err(wrong_call(name, fields.len())),
     }
 }
 
-/// Why a line that is not a Setup has no form of a call.
-fn wrong_call(name: &str) -> String {
-    let takes = match name {
-        "open" => "one number, the owner",
-        "read" => "three numbers: owner, seat, record",
-        "write" => "four numbers: owner, seat, record, value",
-        "advance" | "abandon" => "two numbers: owner, seat",
-        _ => return format!("'{name}' is not a call"),
+/// Why a name with so many words after it is none of the calls that take numbers alone.
+fn wrong_call(name: &str, given: usize) -> String {
+    let (takes, example) = match name {
+        "open" => ("one number, the owner", "open 0"),
+        "read" => ("three numbers, owner, seat and record", "read 0 0 1"),
+        "write" => ("four numbers, owner, seat, record and value", "write 0 0 1 7"),
+        "advance" => ("two numbers, owner and seat", "advance 0 0"),
+        "abandon" => ("two numbers, owner and seat", "abandon 0 0"),
+        _ => return not_a_call(name),
     };
-    format!("{name} takes {takes}")
-}
-
-fn parse_setup(fields: &[&str]) -> Result<TapeCall, String> {
-    let form = "setup takes a record count, 'start' and a number, 'shares' and up to sixteen \
-                numbers, 'limits' and up to sixteen numbers";
-    let [count, "start", start, "shares", plan @ ..] = fields else {
-        return Err(form.to_string());
+    let given = match given {
+        0 => "here is none".to_string(),
+        1 => "here is 1".to_string(),
+        _ => format!("here are {given}"),
     };
-    let middle = plan.iter().position(|&field| field == "limits").ok_or(form)?;
-    Ok(TapeCall::Setup {
-        count: number("record count", count)?,
-        start: number("start", start)?,
-        shares: sixteen("share", &plan[..middle])?,
-        limits: sixteen("limit", &plan[middle + 1..])?,
-    })
+    format!("{name} takes {takes}, but {given}; for example: {example}")
 }
 
-/// Up to sixteen numbers, one to an owner; the missing ones are 0.
-fn sixteen(name: &str, fields: &[&str]) -> Result<[u8; OWNERS], String> {
-    if fields.len() > OWNERS {
-        return Err(format!("setup takes up to sixteen {name}s, not {}", fields.len()));
+fn not_a_call(name: &str) -> String {
+    let found = shown(name);
+    let small = name.to_lowercase();
+    if small == hex::MARK {
+        return format!("'{found}' is not a call: a file of hex digits begins with the word hex");
     }
-    let mut numbers = [0; OWNERS];
-    for (place, field) in numbers.iter_mut().zip(fields) {
-        *place = number(name, field)?;
+    if CALLS.contains(&&small[..]) {
+        return format!("'{found}' is not a call: calls are written in small letters, as {small}");
     }
-    Ok(numbers)
+    let meant = nearest(name, &CALLS).map(|call| format!("; did you mean {call}?"));
+    let calls = CALLS.join(", ");
+    format!("'{found}' is not a call: the calls are {calls}{}", meant.unwrap_or_default())
 }
 
-fn number<T: TryFrom<u64>>(name: &str, digits: &str) -> Result<T, String> {
-    if !digits.bytes().all(|byte| byte.is_ascii_digit()) {
-        return Err(format!("{name} '{digits}' is not a number"));
+/// The words of a Setup that are not yet taken.
+struct Fields<'a>(&'a [&'a str]);
+
+impl<'a> Fields<'a> {
+    fn setup(mut self) -> Result<TapeCall, String> {
+        let count = self.number(&COUNT)?;
+        self.part("start")?;
+        let start = self.number(&START)?;
+        let shares = self.sixteen("shares", &SHARE)?;
+        let limits = self.sixteen("limits", &LIMIT)?;
+        if !self.0.is_empty() {
+            return Err(self.instead_of("its end"));
+        }
+        Ok(TapeCall::Setup { count, start, shares, limits })
     }
-    let fitting = digits.parse::<u64>().ok().and_then(|number| T::try_from(number).ok());
-    fitting.ok_or_else(|| format!("{name} {digits} does not fit its {}-byte field", size_of::<T>()))
+
+    fn number<T: TryFrom<u64>>(&mut self, field: &Field) -> Result<T, String> {
+        let word = self.take(&format!("the {}", field.name), |word| !is_part(word))?;
+        number(field, word)
+    }
+
+    fn part(&mut self, part: &str) -> Result<(), String> {
+        self.take(&format!("'{part}'"), |word| word == part)?;
+        Ok(())
+    }
+
+    /// The part's word and up to sixteen numbers, one to an owner. Those left out are 0.
+    fn sixteen(&mut self, part: &str, field: &Field) -> Result<[u8; OWNERS], String> {
+        self.part(part)?;
+        let given = self.0.iter().position(|word| is_part(word)).unwrap_or(self.0.len());
+        let (words, rest) = self.0.split_at(given);
+        if given == 0 {
+            return Err(format!("'{part}' has no number: write at least one, as {part} 0"));
+        }
+        if given > OWNERS {
+            return Err(format!("setup takes up to sixteen {part}, but here are {given}"));
+        }
+        let mut numbers = [0; OWNERS];
+        for (place, word) in numbers.iter_mut().zip(words) {
+            *place = number(field, word)?;
+        }
+        self.0 = rest;
+        Ok(numbers)
+    }
+
+    /// Takes the next word, if it is one of those that are wanted here.
+    fn take(&mut self, wanted: &str, fits: impl Fn(&str) -> bool) -> Result<&'a str, String> {
+        match self.0 {
+            [word, rest @ ..] if fits(word) => {
+                self.0 = rest;
+                Ok(word)
+            }
+            _ => Err(self.instead_of(wanted)),
+        }
+    }
+
+    fn instead_of(&self, wanted: &str) -> String {
+        let found = match self.0 {
+            [] => "ends".to_string(),
+            [word, ..] => format!("has '{}'", shown(word)),
+        };
+        format!("setup {found} where {wanted} is wanted; for example: {A_SETUP}")
+    }
+}
+
+/// Whether a word is meant to begin a part of a Setup, if with a capital or without its last s.
+fn is_part(word: &str) -> bool {
+    let small = word.to_lowercase();
+    ["start", "share", "limit"].iter().any(|part| small.starts_with(part))
 }
 
 impl fmt::Display for TapeCall {

@@ -49,14 +49,26 @@ fn hex_to_tape() {
     let tape = run(TAPE, &["hex"], b"01 # version\n0002 01fF\n\n");
     assert!(tape.status.success());
     assert_eq!(tape.stdout, [1, 0, 2, 1, 255]);
-    fails(&["hex"], b"01\n0 2", "line 2: '0' is not made of pairs of hex digits");
-    fails(&["hex"], b"0x", "line 1: '0x' is not made of pairs of hex digits");
+    fails(
+        &["hex"],
+        b"01\n0 2",
+        "line 2: '0' has a digit too few or too many: a byte is two hex digits",
+    );
+    fails(&["hex"], b"0x", "line 1: '0x' begins with 0x: write the hex digits alone");
 }
 
 #[test]
 fn errors_are_told_on_standard_error() {
-    fails(&["encode"], b"open 0\nopen\n", "line 2: open takes one number, the owner");
-    fails(&["decode"], b"", "bad tape, fault 31 at byte 0: there is no version byte 1");
+    fails(
+        &["encode"],
+        b"open 0\nopen\n",
+        "line 2: open takes one number, the owner, but here is none; for example: open 0",
+    );
+    fails(
+        &["decode"],
+        b"",
+        "stopped 31 at byte 0: The tape does not begin with the version byte 1.",
+    );
     let usage =
         "usage: tape encode [FILE] | tape decode [FILE] | tape hex [FILE] | tape bytes FILE";
     for arguments in [&[][..], &["play"], &["encode", "a", "b"], &["bytes"]] {
@@ -80,7 +92,13 @@ fn files_by_their_ending() {
     let bad = folder.join("bad.txt");
     fs::write(&bad, "open\n").expect("the folder can be written");
     let bad = bad.to_str().expect("a plain path");
-    fails(&["bytes", bad], b"", &format!("{bad}: line 1: open takes one number, the owner"));
+    fails(
+        &["bytes", bad],
+        b"",
+        &format!(
+            "{bad}: line 1: open takes one number, the owner, but here is none; for example: open 0"
+        ),
+    );
 }
 
 #[test]

@@ -190,6 +190,6 @@ fn a_random_tape_tells_what_the_monitor_tells() {
         }
         let tape = encode(&tape);
         assert_eq!(lines(&tape), expected + "end 400\n");
-        assert_eq!(text::to_tape(&text::from_tape(&tape).unwrap()), Ok(tape));
+        assert_eq!(text::to_tape(&text::from_tape(&tape).text), Ok(tape));
     });
 }

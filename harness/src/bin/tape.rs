@@ -73,6 +73,6 @@ fn from_hex(text: Vec<u8>) -> Result<Vec<u8>, String> {
 }
 
 fn decode(tape: Vec<u8>) -> Result<Vec<u8>, String> {
-    let text = text::from_tape(&tape).map_err(|stop| stop.to_string())?;
-    Ok(text.into_bytes())
+    let decoded = text::from_tape(&tape);
+    decoded.stop.map_or(Ok(decoded.text.into_bytes()), |stop| Err(stop.to_string()))
 }
