@@ -1,21 +1,21 @@
 //! A tape written as hex digits, for the bytes that a text tape has no call for.
 
-use crate::line::{self, TextErrors, begins_with_0x, shown};
+use crate::text_line::{self, TextErrors, begins_with_0x, shown};
 
 /// The word that a file of hex digits may begin with.
 pub const MARK: &str = "hex";
 
 /// Whether a text is one of hex digits: its first word is `hex`, or begins with a digit.
 pub fn is_hex(text: &str) -> bool {
-    let first = line::first_word(text);
+    let first = text_line::first_word(text);
     first.is_some_and(|word| word == MARK || word.starts_with(|first: char| first.is_ascii_digit()))
 }
 
 /// The bytes of the digits. Spaces may stand between bytes, and '#' begins a remark.
 pub fn to_bytes(text: &str) -> Result<Vec<u8>, TextErrors> {
     let mut begun = false;
-    let lines = line::each(text, |_, content| {
-        let words = line::words(content)?;
+    let lines = text_line::each(text, |_, content| {
+        let words = text_line::words(content)?;
         let mark = usize::from(!begun && words.first() == Some(&MARK));
         begun |= !words.is_empty();
         words[mark..].iter().map(|word| pairs(word)).collect::<Result<Vec<_>, _>>()

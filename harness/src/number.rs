@@ -1,6 +1,6 @@
 //! The numbers of a text tape: what each is for, and the one way to write it.
 
-use crate::line::{begins_with_0x, shown};
+use crate::text_line::{begins_with_0x, shown};
 
 /// What a number is for, and which numbers are of use there.
 pub struct Field {

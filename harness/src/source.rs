@@ -2,8 +2,8 @@
 
 use std::str;
 
-use crate::line::TextError;
 use crate::text::{self, Written};
+use crate::text_line::TextError;
 use crate::{hex, tape};
 
 /// How many bytes of a file that is no tape are shown.

@@ -3,11 +3,11 @@
 use std::fmt;
 
 use crate::hex;
-use crate::line::{self, TextErrors, shown};
 use crate::nearest::nearest;
 use crate::number::{COUNT, Field, LIMIT, OWNER, RECORD, SEAT, SHARE, START, VALUE, number};
 use crate::plan::OWNERS;
 use crate::tape::{self, Stop, TapeCall};
+use crate::text_line::{self, TextErrors, shown};
 
 /// The names of the calls.
 const CALLS: [&str; 6] = ["setup", "open", "read", "write", "advance", "abandon"];
@@ -24,8 +24,8 @@ pub struct Written {
 
 /// The calls of a text tape, each with its line.
 pub fn written(text: &str) -> Result<Vec<Written>, TextErrors> {
-    let lines = line::each(text, |line, content| {
-        let words = line::code(content).to_string();
+    let lines = text_line::each(text, |line, content| {
+        let words = text_line::code(content).to_string();
         Ok(parse_line(content)?.map(|call| Written { line, words, call }))
     })?;
     Ok(lines.into_iter().flatten().collect())
@@ -60,7 +60,7 @@ pub fn from_tape(tape: &[u8]) -> Decoded {
 
 /// The call of one line, or None where the line is blank or a remark.
 pub fn parse_line(line: &str) -> Result<Option<TapeCall>, String> {
-    let words = line::words(line)?;
+    let words = text_line::words(line)?;
     match words[..] {
         [] => Ok(None),
         ["setup", ref fields @ ..] => Fields(fields).setup().map(Some),
