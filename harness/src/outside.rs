@@ -5,14 +5,13 @@ use std::ffi::OsString;
 use std::fmt::Display;
 use std::fs;
 use std::io::{self, Read, Write};
-use std::os::unix::fs::PermissionsExt;
 use std::path::{Path, PathBuf};
 use std::process::{Child, ChildStdin, Command, ExitStatus, Output, Stdio};
 use std::sync::mpsc;
 use std::thread;
 use std::time::{Duration, Instant};
 
-use crate::{program, stored};
+use crate::{player, program, stored};
 
 /// Longer than any program may take to end.
 pub const PATIENCE: Duration = Duration::from_secs(30);
@@ -34,8 +33,7 @@ pub fn monitor_named(name: Option<OsString>) -> io::Result<PathBuf> {
         return Ok(stored::file("target/bin/monitor"));
     };
     let path = PathBuf::from(name);
-    let runs = |file: fs::Metadata| file.is_file() && file.permissions().mode() & 0o111 != 0;
-    match fs::metadata(&path).is_ok_and(runs) {
+    match player::runs(&path) {
         true => Ok(path),
         false => Err(io::Error::other(format!("MONITOR names no program that can run: {path:?}"))),
     }
