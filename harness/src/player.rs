@@ -39,8 +39,8 @@ pub fn unwritten(error: io::Error) -> Lost {
 pub fn monitor() -> Result<PathBuf, String> {
     if let Some(name) = env::var_os("MONITOR") {
         let path = PathBuf::from(name);
-        return found(&path)
-            .ok_or_else(|| format!("MONITOR names no program that can run: {}", path.display()));
+        let wrong = || format!("MONITOR names no program that can run: '{}'", path.display());
+        return found(&path).ok_or_else(wrong);
     }
     let here = env::current_exe().map_err(|error| format!("where is this program? {error}"))?;
     let beside = here.with_file_name("monitor");
@@ -103,8 +103,11 @@ impl Player {
         let mut line = Vec::new();
         let mut room = (&mut self.lines).take(LINE_ROOM as u64);
         room.read_until(b'\n', &mut line).map_err(|_| Lost::BrokenOff)?;
-        let line = line.strip_suffix(b"\n").ok_or(Lost::BrokenOff)?;
-        Ok(String::from_utf8_lossy(line).into_owned())
+        match line.strip_suffix(b"\n") {
+            Some(line) => Ok(String::from_utf8_lossy(line).into_owned()),
+            None if line.len() < LINE_ROOM => Err(Lost::BrokenOff),
+            None => Err(Lost::Because("a line of the monitor's does not end".to_string())),
+        }
     }
 
     /// Whether the next line has to be waited for.

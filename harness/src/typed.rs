@@ -12,14 +12,14 @@ use crate::tape::{self, TapeCall, VERSION};
 use crate::text;
 
 /// How to begin.
-const HINT: &str = "Begin with a setup, as: setup 2 start 0 shares 1 limits 1. help lists all \
-                    calls, quit ends.\n";
+const HINT: &str = "type a call, first a setup, as 'setup 2 start 0 shares 1 limits 1'; \
+                    'help' lists the calls, 'quit' ends\n";
 
 /// Every call with its arguments and an example. Typed in turn, the examples all do something.
 pub const HELP: &str = "\
 setup RECORDS start TIME shares S0 S1 .. limits L0 L1 ..
     begins: so many records, all 0, at this time; a share and a limit of seats to each owner
-    setup 2 start 0 shares 1 limits 2
+    setup 2 start 0 shares 1 limits 1
 open OWNER
     takes a seat for an alarm call
     open 0
@@ -114,7 +114,7 @@ fn typed(input: &mut impl BufRead) -> Result<Typed, Lost> {
         return Ok(Typed::Quit);
     }
     let line = String::from_utf8_lossy(&line);
-    match line.trim() {
+    match line.split('#').next().unwrap_or_default().trim() {
         "help" => return Ok(Typed::Help),
         "quit" => return Ok(Typed::Quit),
         _ => {}
