@@ -7,7 +7,7 @@ use crate::colour::Colour;
 /// No row is wider, unless an answer leaves it no choice.
 const WIDTH: usize = 120;
 /// As wide as an answer is but for very great numbers.
-const ANSWER: usize = 12;
+const ANSWER: usize = 14;
 /// Two columns are as far apart.
 const GAP: usize = 2;
 

@@ -84,7 +84,7 @@ fn a_monitor_that_is_ended_by_a_signal() {
         "the monitor was ended by signal 9",
     );
     assert_eq!(run, "1 ready 1\n");
-    assert!(show.ends_with("ready 1       1 record, which is 0, at time 0\n"), "{show}");
+    assert!(show.ends_with("ready 1         1 record, which is 0, at time 0\n"), "{show}");
     let small =
         "the monitor was ended by signal 11: it needs a stack of a megabyte (see ulimit -s)";
     both_say_of("small", "kill -SEGV $$", small);
