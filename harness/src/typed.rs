@@ -96,8 +96,7 @@ impl<W: Write> Talk<W> {
         tape::append(&mut frame, call);
         tape.write_all(&frame).map_err(|_| Lost::BrokenOff)?;
         let line = self.player.line()?;
-        self.account.answer("", call, &line)?;
-        self.account.page.flush().map_err(unwritten)
+        self.account.answer("", call, &line)
     }
 
     fn say(&mut self, text: &str) -> Result<(), Lost> {

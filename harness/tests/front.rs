@@ -201,6 +201,24 @@ fn what_is_left_and_the_totals_are_true() {
     assert!(left >= 300 && open >= 300, "only {left} records and {open} seats");
 }
 
+/// What stands for a call in its row.
+fn call_shown(call: &str) -> String {
+    let shown = told(front(&["show"]), call.as_bytes());
+    let row = rows(&shown.output).swap_remove(0);
+    let (_, call) = row.split_once("1  ").expect("the call's line");
+    call.split_once("  ").expect("two columns").0.to_string()
+}
+
+#[test]
+fn a_long_call_is_shortened_between_its_numbers() {
+    assert_eq!(call_shown("\topen   0 # mine"), "open 0");
+    assert_eq!(call_shown("write 0 0 1023 12345678901"), "write 0 0 1023 12345678901");
+    assert_eq!(call_shown("write 0 0 1023 123456789012"), "write 0 0 1023 ..");
+    assert_eq!(call_shown("setup 2 start 1 shares limits 2"), "setup 2 start 1 shares ..");
+    assert_eq!(call_shown("setup 20 start 1 shares limits"), "setup 20 start 1 shares ..");
+    assert_eq!(call_shown("setup 20 start 10 shares limits"), "setup 20 start 10 ..");
+}
+
 #[test]
 fn long_tapes_come_through_whole() {
     let tape = ORDINARY.tape(200_000);
@@ -355,7 +373,7 @@ fn the_examples_of_the_help_can_be_typed() {
     );
     let tried =
         told(front(&["try"]), format!("help\n{}\nquit\nno more", examples.join("\n")).as_bytes());
-    assert!(tried.output.contains(typed::HELP));
+    assert!(tried.output.contains(typed::HELP) && !tried.output.contains("not sent"));
     let told = totals(&tried.output);
     assert_eq!((told["refused"].as_str(), told["dropped"].as_str()), ("0", "1"));
 }

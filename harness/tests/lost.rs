@@ -65,6 +65,15 @@ fn the_monitor_stands_beside_the_program() {
     assert_eq!((without.errors, without.status), (missing, Some(2)));
 }
 
+/// A name alone is a file of the folder where the program is called, and is not looked for elsewhere.
+#[test]
+fn a_monitor_by_its_name_alone() {
+    let monitor = script("alone", "cat > /dev/null; echo 'end 0'");
+    let mut command = tape(Path::new("monitor"), &["run"]);
+    command.current_dir(monitor.parent().expect("its folder"));
+    assert_eq!(told(command, b"").output, "end 0\n");
+}
+
 #[test]
 fn a_monitor_that_is_not_there() {
     let nothing = folder("nothing").join("no-monitor");
@@ -139,7 +148,7 @@ fn lines_that_answer_another_call_have_no_words() {
     .iter()
     .enumerate()
     {
-        let monitor = script(&format!("odd-{number}"), &format!("echo '{line}'; exec sleep 20"));
+        let monitor = script(&format!("odd-{number}"), &format!("echo '{line}'; exec sleep 100"));
         let shown = told(tape(&monitor, &["show"]), TEXT);
         let odd = format!("tape: this is no line of the monitor's, or not here: '{line}'\n");
         assert_eq!((shown.errors, shown.status), (odd, Some(2)));
@@ -149,6 +158,15 @@ fn lines_that_answer_another_call_have_no_words() {
     assert_eq!(told(tape(&more, &["run"]), TEXT).status, Some(0));
     let fewer = script("fewer", "printf '1 ready 1\\n2 seat 0\\nend 1\\n'");
     assert!(told(tape(&fewer, &["show"]), TEXT).errors.ends_with(" 'end 1'\n"));
+}
+
+/// It tells more after its last line, and nobody reads that.
+#[test]
+fn a_monitor_that_goes_on_is_ended() {
+    let on = script("on", "printf '1 ready 1\\n2 seat 0\\nend 2\\n'; exec yes");
+    let shown = told(tape(&on, &["show"]), TEXT);
+    assert_eq!(shown.errors, "tape: the monitor was ended by signal 13\n");
+    assert_eq!(shown.status, Some(2));
 }
 
 #[test]
