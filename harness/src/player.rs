@@ -18,15 +18,16 @@ pub const LINE_ROOM: usize = 64;
 const PART: usize = 1 << 16;
 /// More bytes than the monitor ever complains with.
 const COMPLAINT: u64 = 1000;
-/// The signal that ends a program where its stack is too small.
-const NO_MEMORY_THERE: i32 = 11;
+/// The signal that ends a program which leaves its memory, as with too small a stack.
+const LEFT_ITS_MEMORY: i32 = 11;
+const SMALL_STACK: &str = ": it needs a stack of a megabyte (see ulimit -s)";
 
 /// Why a tape was not played to its end.
 #[derive(Clone, Debug, PartialEq, Eq)]
 pub enum Lost {
     /// The monitor's lines break off, and what became of the monitor says why.
     BrokenOff,
-    /// Something else, in words. The monitor is not waited for.
+    /// Something else, in words. The monitor is ended, since nothing more is wanted of it.
     Because(String),
 }
 
@@ -42,7 +43,8 @@ pub fn monitor() -> Result<PathBuf, String> {
         let wrong = || format!("MONITOR names no program that can run: '{}'", path.display());
         return found(&path).ok_or_else(wrong);
     }
-    let here = env::current_exe().map_err(|error| format!("where is this program? {error}"))?;
+    let lost = |error: io::Error| format!("this program can't find its own folder: {error}");
+    let here = env::current_exe().map_err(lost)?;
     let beside = here.with_file_name("monitor");
     let missing = || format!("there is no monitor beside this program: {}", beside.display());
     found(&beside).ok_or_else(missing)
@@ -146,13 +148,13 @@ fn complaint(mut errors: ChildStderr) -> String {
 
 /// What is wrong with a monitor that ended so, if anything.
 fn blame(status: ExitStatus, complaint: &str) -> Option<String> {
-    match (status.signal(), complaint.lines().next(), status.code()) {
-        (Some(NO_MEMORY_THERE), ..) => Some(format!(
-            "the monitor was ended by signal {NO_MEMORY_THERE}: it needs a stack of a megabyte (see ulimit -s)"
-        )),
-        (Some(signal), ..) => Some(format!("the monitor was ended by signal {signal}")),
-        (None, Some(complaint), _) => Some(complaint.to_string()),
-        (None, None, Some(0)) => None,
-        (None, None, code) => Some(format!("the monitor ended with status {}", code.unwrap_or(-1))),
+    if let Some(signal) = status.signal() {
+        let why = if signal == LEFT_ITS_MEMORY { SMALL_STACK } else { "" };
+        return Some(format!("the monitor was ended by signal {signal}{why}"));
     }
+    if let Some(line) = complaint.lines().next() {
+        return Some(line.to_string());
+    }
+    let code = status.code().filter(|&code| code != 0)?;
+    Some(format!("the monitor ended with status {code}"))
 }

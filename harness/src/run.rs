@@ -17,7 +17,7 @@ pub fn run(monitor: &Path, tape: Vec<u8>, output: impl Write) -> Result<Ending, 
 
 fn pass_on(player: &mut Player, mut output: impl Write) -> Result<Ending, Lost> {
     let mut tail = Tail::default();
-    while !tail.is_whole {
+    while !tail.has_ended {
         player.part(|part| {
             tail.take(part);
             output.write_all(part).and_then(|()| output.flush()).map_err(unwritten)
@@ -30,13 +30,13 @@ fn pass_on(player: &mut Player, mut output: impl Write) -> Result<Ending, Lost> 
 #[derive(Default)]
 struct Tail {
     bytes: Vec<u8>,
-    is_whole: bool,
+    has_ended: bool,
 }
 
 impl Tail {
     /// Nothing more is the end of the lines.
     fn take(&mut self, part: &[u8]) {
-        self.is_whole = part.is_empty();
+        self.has_ended = part.is_empty();
         self.bytes.extend(&part[part.len().saturating_sub(LINE_ROOM)..]);
         self.bytes.drain(..self.bytes.len().saturating_sub(LINE_ROOM));
     }

@@ -45,6 +45,7 @@ enum Typed {
     Nothing,
     Help,
     Quit,
+    End,
     Mistake(String),
 }
 
@@ -73,6 +74,8 @@ impl<W: Write> Talk<W> {
         prompt: &str,
         mut tape: ChildStdin,
     ) -> Result<Ending, Lost> {
+        // Where the input ends behind a prompt, its line is still open.
+        let line_end = if prompt.is_empty() { "" } else { "\n" };
         self.say(HINT)?;
         tape.write_all(&[VERSION]).map_err(|_| Lost::BrokenOff)?;
         loop {
@@ -82,6 +85,10 @@ impl<W: Write> Talk<W> {
                 Typed::Nothing => {}
                 Typed::Help => self.say(HELP)?,
                 Typed::Quit => break,
+                Typed::End => {
+                    self.say(line_end)?;
+                    break;
+                }
                 Typed::Mistake(what) => self.say(&format!("not sent: {what}\n"))?,
             }
         }
@@ -110,7 +117,7 @@ fn typed(input: &mut impl BufRead) -> Result<Typed, Lost> {
     let unread = |error: io::Error| Lost::Because(format!("standard input: {error}"));
     let mut line = Vec::new();
     if input.read_until(b'\n', &mut line).map_err(unread)? == 0 {
-        return Ok(Typed::Quit);
+        return Ok(Typed::End);
     }
     let line = String::from_utf8_lossy(&line);
     match line.split('#').next().unwrap_or_default().trim() {

@@ -23,7 +23,7 @@ tape decode [FILE]   turns a tape into text
 tape bytes FILE      prints the bytes of the tape that a file holds in any form
 tape help            prints this list
 
-A file holds a tape as text, as hex digits or as bytes. Without FILE, or with -, it is standard input.
+FILE holds a tape as text, as hex digits or as bytes. Without it, or with -, standard input does.
 The monitor is the program 'monitor' beside this one, or the one that MONITOR names.
 The exit status is 0; 1 where the tape has a fault; 2 where nothing was done or output was lost.
 ";
