@@ -2,6 +2,10 @@
 
 use crate::answer::Answer;
 
+/// The bytes of the longest line: two numbers of 20 digits, a spelling of 7 letters, two blanks and
+/// a line's end.
+pub const LONGEST_LINE: usize = 20 + 7 + 20 + 3;
+
 #[derive(Clone, Copy, Debug, PartialEq, Eq)]
 pub enum Line {
     /// The call's number, counted from 1, and its answer.

@@ -1,19 +1,18 @@
 //! The proved program at work: where it is, how it is fed, its lines, and what became of it.
 
 use std::env;
+use std::ffi::OsString;
 use std::fs;
 use std::io::{self, BufRead, BufReader, Read, Write};
 use std::os::unix::fs::PermissionsExt;
 use std::os::unix::process::ExitStatusExt;
-use std::path::{Path, PathBuf};
+use std::path::{self, Path, PathBuf};
 use std::process::{Child, ChildStderr, ChildStdin, ChildStdout, Command, ExitStatus, Stdio};
 use std::sync::Arc;
 use std::thread::{self, JoinHandle};
 
-use crate::line::Ending;
+use crate::line::{Ending, LONGEST_LINE};
 
-/// More bytes than the longest line has.
-pub const LINE_ROOM: usize = 64;
 /// As many bytes as a pipe gives at once.
 const PART: usize = 1 << 16;
 /// More bytes than the monitor ever complains with.
@@ -39,26 +38,24 @@ pub fn unwritten(error: io::Error) -> Lost {
 /// The proved program: what `MONITOR` names, or else the file `monitor` beside this program.
 pub fn monitor() -> Result<PathBuf, String> {
     if let Some(name) = env::var_os("MONITOR") {
-        let path = PathBuf::from(name);
-        let wrong = || format!("MONITOR names no program that can run: '{}'", path.display());
-        return found(&path).ok_or_else(wrong);
+        return named(name);
     }
     let lost = |error: io::Error| format!("this program can't find its own folder: {error}");
-    let here = env::current_exe().map_err(lost)?;
-    let beside = here.with_file_name("monitor");
+    let beside = env::current_exe().map_err(lost)?.with_file_name("monitor");
     let missing = || format!("there is no monitor beside this program: {}", beside.display());
     found(&beside).ok_or_else(missing)
 }
 
-/// The whole path of a program that can run: a name alone would be looked for elsewhere.
-fn found(path: &Path) -> Option<PathBuf> {
-    path.canonicalize().ok().filter(|path| runs(path))
+/// The program that `MONITOR` names so.
+pub fn named(name: OsString) -> Result<PathBuf, String> {
+    let path = PathBuf::from(name);
+    found(&path).ok_or_else(|| format!("MONITOR names no program that can run: {path:?}"))
 }
 
-/// Whether the path is that of a program that can run.
-pub fn runs(path: &Path) -> bool {
+/// The whole path of a program that can run: a name alone would be looked for elsewhere.
+fn found(path: &Path) -> Option<PathBuf> {
     let runs = |file: fs::Metadata| file.is_file() && file.permissions().mode() & 0o111 != 0;
-    fs::metadata(path).is_ok_and(runs)
+    path::absolute(path).ok().filter(|path| fs::metadata(path).is_ok_and(runs))
 }
 
 /// The monitor under way.
@@ -103,11 +100,11 @@ impl Player {
     /// The next line, without its line's end.
     pub fn line(&mut self) -> Result<String, Lost> {
         let mut line = Vec::new();
-        let mut room = (&mut self.lines).take(LINE_ROOM as u64);
+        let mut room = (&mut self.lines).take(LONGEST_LINE as u64);
         room.read_until(b'\n', &mut line).map_err(|_| Lost::BrokenOff)?;
         match line.strip_suffix(b"\n") {
             Some(line) => Ok(String::from_utf8_lossy(line).into_owned()),
-            None if line.len() < LINE_ROOM => Err(Lost::BrokenOff),
+            None if line.len() < LONGEST_LINE => Err(Lost::BrokenOff),
             None => Err(Lost::Because("a line of the monitor's does not end".to_string())),
         }
     }

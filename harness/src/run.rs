@@ -5,8 +5,8 @@ use std::path::Path;
 use std::str;
 use std::sync::Arc;
 
-use crate::line::{Ending, Line};
-use crate::player::{LINE_ROOM, Lost, Player, unwritten};
+use crate::line::{Ending, LONGEST_LINE, Line};
+use crate::player::{Lost, Player, unwritten};
 
 /// Plays a tape, and writes the monitor's lines to the output byte by byte as they are.
 pub fn run(monitor: &Path, tape: Vec<u8>, output: impl Write) -> Result<Ending, String> {
@@ -26,7 +26,7 @@ fn pass_on(player: &mut Player, mut output: impl Write) -> Result<Ending, Lost> 
     tail.ending().ok_or(Lost::BrokenOff)
 }
 
-/// The last bytes of the lines: more than the last line has, and never more than that.
+/// The last bytes of the lines, as many as a line can have.
 #[derive(Default)]
 struct Tail {
     bytes: Vec<u8>,
@@ -37,8 +37,8 @@ impl Tail {
     /// Nothing more is the end of the lines.
     fn take(&mut self, part: &[u8]) {
         self.has_ended = part.is_empty();
-        self.bytes.extend(&part[part.len().saturating_sub(LINE_ROOM)..]);
-        self.bytes.drain(..self.bytes.len().saturating_sub(LINE_ROOM));
+        self.bytes.extend(&part[part.len().saturating_sub(LONGEST_LINE)..]);
+        self.bytes.drain(..self.bytes.len().saturating_sub(LONGEST_LINE));
     }
 
     /// How the tape came to its end, where the last line is whole and says so.

@@ -11,7 +11,7 @@ use crate::line::Ending;
 use crate::page::Page;
 use crate::player::{Lost, Player, unwritten};
 use crate::source::Source;
-use crate::tape::{TapeCall, TapeReader};
+use crate::tape::{SHORTEST_CALL, TapeCall, TapeReader};
 use crate::text::Written;
 
 /// A longer call is shortened.
@@ -38,8 +38,7 @@ pub fn show(monitor: &Path, source: Source, page: Page<impl Write>) -> Result<En
         }
         Source::Bytes(tape) => {
             let tape = Arc::new(tape);
-            // No call is shorter than 4 bytes.
-            let columns = Columns::new("no", tape.len() / 4);
+            let columns = Columns::new("no", tape.len() / SHORTEST_CALL);
             play(monitor, Arc::clone(&tape), page, columns, of_bytes(&tape))
         }
     }

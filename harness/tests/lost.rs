@@ -65,7 +65,7 @@ fn the_monitor_stands_beside_the_program() {
     assert_eq!((without.errors, without.status), (missing, Some(2)));
 }
 
-/// A name alone is a file of the folder where the program is called, and is not looked for elsewhere.
+/// A name alone is a file of the folder where the program is called.
 #[test]
 fn a_monitor_by_its_name_alone() {
     let monitor = script("alone", "cat > /dev/null; echo 'end 0'");
@@ -77,11 +77,11 @@ fn a_monitor_by_its_name_alone() {
 #[test]
 fn a_monitor_that_is_not_there() {
     let nothing = folder("nothing").join("no-monitor");
-    let message = format!("MONITOR names no program that can run: '{}'", nothing.display());
+    let message = format!("MONITOR names no program that can run: {nothing:?}");
     assert_eq!(both_say(&nothing, &message), ["", ""]);
     let tried = told(tape(&nothing, &["try"]), b"");
     assert_eq!((tried.errors, tried.status), (format!("tape: {message}\n"), Some(2)));
-    both_say(Path::new(""), "MONITOR names no program that can run: ''");
+    both_say(Path::new(""), "MONITOR names no program that can run: \"\"");
 }
 
 /// What it told before is passed on.
