@@ -28,6 +28,27 @@ impl Answer {
         self.parts().1
     }
 
+    /// The answer with this word and number, as a line of the monitor has them.
+    pub fn spelled(spelling: &str, number: u64) -> Option<Answer> {
+        let answers = [
+            Answer::Ready,
+            Answer::Seat,
+            Answer::Value,
+            Answer::Noted,
+            Answer::Locked,
+            Answer::Timed,
+            Answer::Checked,
+            Answer::Sealed,
+            Answer::Stored,
+            Answer::Done,
+            Answer::Dropped,
+            Answer::Refused,
+            Answer::Aborted,
+        ];
+        let mut numbered = answers.iter().map(|answer| answer(number));
+        numbered.find(|answer| answer.spelling() == spelling)
+    }
+
     pub fn is_refused(self) -> bool {
         matches!(self, Answer::Refused(_))
     }

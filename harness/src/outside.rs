@@ -5,22 +5,18 @@ use std::ffi::OsString;
 use std::fmt::Display;
 use std::fs;
 use std::io::{self, Read, Write};
-use std::os::unix::fs::PermissionsExt;
 use std::path::{Path, PathBuf};
 use std::process::{Child, ChildStdin, Command, ExitStatus, Output, Stdio};
 use std::sync::mpsc;
 use std::thread;
 use std::time::{Duration, Instant};
 
-use crate::{program, stored};
+use crate::line::LONGEST_LINE;
+use crate::tape::SHORTEST_CALL;
+use crate::{player, program, stored};
 
 /// Longer than any program may take to end.
 pub const PATIENCE: Duration = Duration::from_secs(30);
-
-/// The longest line: two numbers of 20 digits, a spelling of 7 letters, two blanks and a line's end.
-const LONGEST_LINE: usize = 20 + 7 + 20 + 3;
-/// The shortest call of a tape: its length, its kind and an owner.
-const SHORTEST_CALL: usize = 2 + 1 + 1;
 
 /// The proved monitor program: what `MONITOR` names, or else what the build has left.
 pub fn monitor() -> io::Result<PathBuf> {
@@ -33,12 +29,7 @@ pub fn monitor_named(name: Option<OsString>) -> io::Result<PathBuf> {
     let Some(name) = name else {
         return Ok(stored::file("target/bin/monitor"));
     };
-    let path = PathBuf::from(name);
-    let runs = |file: fs::Metadata| file.is_file() && file.permissions().mode() & 0o111 != 0;
-    match fs::metadata(&path).is_ok_and(runs) {
-        true => Ok(path),
-        false => Err(io::Error::other(format!("MONITOR names no program that can run: {path:?}"))),
-    }
+    player::named(name).map_err(io::Error::other)
 }
 
 /// Starts a program. An error names it.

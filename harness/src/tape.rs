@@ -8,6 +8,8 @@ use crate::meaning::{STOPPED, meaning};
 use crate::plan::{OWNERS, Plan};
 
 pub const VERSION: u8 = 1;
+/// The bytes of the shortest call: its length, its kind and an owner.
+pub const SHORTEST_CALL: usize = 2 + 1 + 1;
 const LONGEST_FRAME: usize = u16::MAX as usize;
 
 /// A call with each number as wide as its field on the tape.

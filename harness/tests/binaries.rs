@@ -1,13 +1,16 @@
-//! The two programs from outside: their streams, their messages and their exit statuses.
+//! The second program and those commands of `tape` that play nothing: their streams, their
+//! messages and their exit statuses.
 
-use std::fs;
-use std::path::Path;
+mod called;
+
+use std::fs::{self, File};
+use std::path::{Path, PathBuf};
 use std::process::{Command, Output, Stdio};
 
+use called::{TAPE, Told, told, told_into};
 use second::outside::{self, PATIENCE};
 
 const SECOND: &str = env!("CARGO_BIN_EXE_second");
-const TAPE: &str = env!("CARGO_BIN_EXE_tape");
 /// More bytes than any program here tells.
 const MOST: usize = 1000;
 
@@ -19,11 +22,25 @@ fn run(program: &str, arguments: &[&str], input: &[u8]) -> Output {
     output.unwrap_or_else(|error| panic!("{error}"))
 }
 
-fn fails(arguments: &[&str], input: &[u8], message: &str) {
-    let output = run(TAPE, arguments, input);
-    assert_eq!(output.status.code(), Some(1));
-    assert!(output.stdout.is_empty());
-    assert_eq!(String::from_utf8_lossy(&output.stderr), format!("tape: {message}\n"));
+/// These commands need no monitor.
+fn tape(arguments: &[&str]) -> Command {
+    called::tape(Path::new("no-monitor"), arguments)
+}
+
+/// Asserts that nothing is printed, the status is 2, and each message begins so.
+fn fails(told: Told, messages: &[&str]) {
+    assert_eq!((told.output.as_str(), told.status), ("", Some(2)), "{}", told.errors);
+    assert_eq!(told.errors.lines().count(), messages.len(), "{}", told.errors);
+    for (line, message) in told.errors.lines().zip(messages) {
+        assert!(line.starts_with(message), "'{line}' is not '{message}'");
+    }
+}
+
+/// A file with these contents.
+fn stored(name: &str, contents: &[u8]) -> PathBuf {
+    let path = Path::new(env!("CARGO_TARGET_TMPDIR")).join(name);
+    fs::write(&path, contents).expect("the folder can be written");
+    path
 }
 
 #[test]
@@ -45,65 +62,77 @@ fn a_bad_tape_is_told_on_standard_output() {
 }
 
 #[test]
-fn hex_to_tape() {
-    let tape = run(TAPE, &["hex"], b"01 # version\n0002 01fF\n\n");
-    assert!(tape.status.success());
-    assert_eq!(tape.stdout, [1, 0, 2, 1, 255]);
-    fails(
-        &["hex"],
-        b"01\n0 2",
-        "line 2: '0' has a digit too few or too many: a byte is two hex digits",
-    );
-    fails(&["hex"], b"0x", "line 1: '0x' begins with 0x: write the hex digits alone");
-}
-
-#[test]
-fn errors_are_told_on_standard_error() {
-    fails(
-        &["encode"],
-        b"open 0\nopen\n",
-        "line 2: open takes one number, the owner, but here is none; for example: open 0",
-    );
-    fails(
-        &["decode"],
-        b"",
-        "stopped 31 at byte 0: The tape does not begin with the version byte 1.",
-    );
-    let usage =
-        "usage: tape encode [FILE] | tape decode [FILE] | tape hex [FILE] | tape bytes FILE";
-    for arguments in [&[][..], &["play"], &["encode", "a", "b"], &["bytes"]] {
-        fails(arguments, b"", usage);
+fn hex_digits_to_tape() {
+    for arguments in [&["encode"][..], &["encode", "-"], &["bytes", "-"]] {
+        let tape = run(TAPE, arguments, b"01 # version\n0002 01fF\n\n");
+        assert!(tape.status.success());
+        assert_eq!(tape.stdout, [1, 0, 2, 1, 255]);
     }
+    fails(told(tape(&["encode"]), b"01\n0 2"), &["tape: standard input: line 2: "]);
 }
 
-/// The file's ending says what it is: text, hex digits, or a tape already.
+/// A file's content says what it is: text, hex digits, or a tape already. Its name says nothing.
 #[test]
-fn files_by_their_ending() {
-    let folder = Path::new(env!("CARGO_TARGET_TMPDIR"));
+fn files_by_their_content() {
     let tape = [1, 0, 2, 1, 0];
     for (name, contents) in
-        [("a.txt", &b"open 0\n"[..]), ("a.hex", b"01 0002 0100"), ("a.tape", &tape)]
+        [("a.tape", &b"open 0\n"[..]), ("a.txt", b"01 0002 0100"), ("a.hex", &tape), ("a", &tape)]
     {
-        let path = folder.join(name);
-        fs::write(&path, contents).expect("the folder can be written");
+        let path = stored(name, contents);
         let path = path.to_str().expect("a plain path");
         assert_eq!(run(TAPE, &["bytes", path], b"").stdout, tape, "{name}");
+        assert_eq!(run(TAPE, &["encode", path], b"").stdout, tape, "{name}");
+        assert_eq!(run(TAPE, &["decode", path], b"").stdout, b"open 0\n", "{name}");
     }
-    let bad = folder.join("bad.txt");
-    fs::write(&bad, "open\n").expect("the folder can be written");
-    let bad = bad.to_str().expect("a plain path");
-    fails(
-        &["bytes", bad],
-        b"",
-        &format!(
-            "{bad}: line 1: open takes one number, the owner, but here is none; for example: open 0"
-        ),
-    );
 }
 
 #[test]
-fn a_file_that_is_not_there() {
-    let output = run(TAPE, &["decode", "no-such-tape"], b"");
-    assert_eq!(output.status.code(), Some(1));
-    assert!(String::from_utf8_lossy(&output.stderr).starts_with("tape: no-such-tape: "));
+fn a_file_that_is_no_tape_is_told_with_its_name_and_line() {
+    let bad = stored("bad.txt", b"open 0\nopen\n");
+    let message = format!("tape: {}: line 2: ", bad.display());
+    let bad = bad.to_str().expect("a plain path");
+    for command in ["bytes", "encode", "decode", "run", "show"] {
+        fails(told(tape(&[command, bad]), b""), &[&message]);
+        fails(told(tape(&[command, "no-such-tape"]), b""), &["tape: no-such-tape: "]);
+    }
+    fails(told(tape(&["encode"]), b"\xff"), &["tape: standard input: "]);
+}
+
+/// The calls before the fault come as text that can be played again, and then the fault.
+#[test]
+fn a_faulty_tape_is_text_up_to_its_fault() {
+    for (faulty, calls) in [(&b"\x01\0\x02\x01\0\0"[..], "open 0\n"), (b"00 0002 0100", "")] {
+        let told = told(tape(&["decode"]), faulty);
+        assert_eq!((told.errors.as_str(), told.status), ("", Some(1)));
+        let remark = told.output.strip_prefix(calls).expect("the calls before the fault");
+        assert!(remark.starts_with("# ") && remark.lines().count() == 1, "{remark}");
+        assert_eq!(run(TAPE, &["encode"], told.output.as_bytes()).stdout[0], 1);
+    }
+}
+
+#[test]
+fn help_lists_every_command() {
+    let help = told(tape(&["help"]), b"");
+    assert_eq!((help.errors.as_str(), help.status), ("", Some(0)));
+    for command in ["run", "show", "try", "encode", "decode", "bytes", "help"] {
+        let listed = help.output.lines().any(|line| line.starts_with(&format!("tape {command} ")));
+        assert!(listed, "{command}");
+    }
+    assert_eq!(told(tape(&["--help"]), b"").output, help.output);
+    for arguments in
+        [&[][..], &["play"], &["hex"], &["encode", "a", "b"], &["bytes"], &["try", "a"]]
+    {
+        let wrong = told(tape(arguments), b"");
+        assert_eq!((wrong.output.as_str(), wrong.status), ("", Some(2)), "{arguments:?}");
+        assert_eq!(wrong.errors, help.output, "{arguments:?}");
+    }
+}
+
+#[test]
+fn an_output_that_is_full() {
+    for arguments in [&["help"][..], &["encode"], &["decode"]] {
+        let full = File::options().write(true).open("/dev/full").expect("a device that is full");
+        let told = told_into(full, tape(arguments), b"open 0\n");
+        fails(told, &["tape: standard output: "]);
+    }
 }

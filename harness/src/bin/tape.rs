@@ -1,78 +1,137 @@
-//! Turns a text tape into a tape (`tape encode [FILE]`) and back (`tape decode [FILE]`), or hex
-//! digits into the tape of these bytes (`tape hex [FILE]`). `tape bytes FILE` does what the file's
-//! ending asks for: .txt is text, .hex is hex digits, and anything else is a tape already.
+//! The front of the monitor: plays tapes by the proved program (`run`), tells what its lines mean
+//! (`show`), takes calls as they are typed (`try`), and turns text into a tape and back.
 
 use std::env;
+use std::ffi::{OsStr, OsString};
 use std::fs;
-use std::io::{self, Read, Write};
+use std::io::{self, BufWriter, IsTerminal, Read, Write};
 use std::process::ExitCode;
 
-use second::{hex, text};
+use second::colour::Colour;
+use second::line::Ending;
+use second::page::Page;
+use second::source::{self, Source};
+use second::{player, run, show, text, typed};
 
-const USAGE: &str =
-    "usage: tape encode [FILE] | tape decode [FILE] | tape hex [FILE] | tape bytes FILE";
+const USAGE: &str = "\
+tape run [FILE]      plays a tape by the monitor, and prints its lines
+tape show [FILE]     plays a tape, and tells what each line means and what is left at the end
+tape try             takes calls as you type them, and answers each at once
+tape encode [FILE]   turns text or hex digits into the bytes of a tape
+tape decode [FILE]   turns a tape into text
+tape bytes FILE      prints the bytes of the tape that a file holds in any form
+tape help            prints this list
+
+FILE holds a tape as text, as hex digits or as bytes. Without it, or with -, standard input does.
+The monitor is the program 'monitor' beside this one, or the one that MONITOR names.
+The exit status is 0; 1 where the tape has a fault; 2 where nothing was done or output was lost.
+";
+
+/// What a command comes to, or one message to each error.
+type Outcome = Result<Ending, Vec<String>>;
 
 fn main() -> ExitCode {
-    let arguments: Vec<String> = env::args().skip(1).collect();
-    let arguments: Vec<&str> = arguments.iter().map(String::as_str).collect();
-    match run(&arguments) {
-        Ok(()) => ExitCode::SUCCESS,
-        Err(message) => {
-            eprintln!("tape: {message}");
-            ExitCode::FAILURE
+    let arguments: Vec<OsString> = env::args_os().skip(1).collect();
+    let (command, file) = match &arguments[..] {
+        [command] => (command.to_str(), None),
+        [command, file] => (command.to_str(), Some(file.as_os_str())),
+        _ => (None, None),
+    };
+    let outcome = match (command.unwrap_or_default(), file) {
+        ("run", _) => run_tape(file),
+        ("show", _) => show_tape(file),
+        ("try", None) => try_calls(),
+        ("encode", _) | ("bytes", Some(_)) => encode(file),
+        ("decode", _) => decode(file),
+        ("help" | "--help", None) => print(USAGE.as_bytes()),
+        _ => return failure(USAGE),
+    };
+    match outcome {
+        Ok(Ending::Ended) => ExitCode::SUCCESS,
+        Ok(Ending::Stopped) => ExitCode::from(1),
+        Err(errors) => {
+            failure(&errors.iter().map(|error| format!("tape: {error}\n")).collect::<String>())
         }
     }
 }
 
-fn run(arguments: &[&str]) -> Result<(), String> {
-    let (command, file) = match *arguments {
-        [command] => (command, None),
-        [command, file] => (command, Some(file)),
-        _ => return Err(USAGE.into()),
-    };
-    let output = match command {
-        "encode" => encode(input(file)?)?,
-        "decode" => decode(input(file)?)?,
-        "hex" => from_hex(input(file)?)?,
-        "bytes" => by_ending(file.ok_or(USAGE)?)?,
-        _ => return Err(USAGE.into()),
-    };
-    let written = io::stdout().write_all(&output).and_then(|()| io::stdout().flush());
-    written.map_err(|error| format!("standard output: {error}"))
+/// Where standard error takes nothing either, the status alone has to tell.
+fn failure(message: &str) -> ExitCode {
+    io::stderr().write_all(message.as_bytes()).ok();
+    ExitCode::from(2)
 }
 
-fn input(file: Option<&str>) -> Result<Vec<u8>, String> {
-    if let Some(file) = file {
-        return fs::read(file).map_err(|error| format!("{file}: {error}"));
-    }
+fn run_tape(file: Option<&OsStr>) -> Outcome {
+    let tape = tape_of(read(file)?);
+    let played = player::monitor().and_then(|monitor| run::run(&monitor, tape, io::stdout()));
+    played.map_err(one)
+}
+
+fn show_tape(file: Option<&OsStr>) -> Outcome {
+    let source = read(file)?;
+    let shown = player::monitor().and_then(|monitor| show::show(&monitor, source, page()));
+    shown.map_err(one)
+}
+
+fn try_calls() -> Outcome {
+    let input = io::stdin().lock();
+    let prompt = if input.is_terminal() { "> " } else { "" };
+    let tried =
+        player::monitor().and_then(|monitor| typed::converse(&monitor, input, prompt, page()));
+    tried.map_err(one)
+}
+
+fn encode(file: Option<&OsStr>) -> Outcome {
+    print(&tape_of(read(file)?))
+}
+
+/// The text of a tape. One with a fault has the calls before it, and then the fault as a remark.
+fn decode(file: Option<&OsStr>) -> Outcome {
+    let decoded = text::from_tape(&tape_of(read(file)?));
+    print(decoded.text.as_bytes())?;
+    Ok(if decoded.stop.is_some() { Ending::Stopped } else { Ending::Ended })
+}
+
+/// What a file holds; without one, what standard input does.
+fn read(file: Option<&OsStr>) -> Result<Source, Vec<String>> {
+    let (name, bytes) = match file.filter(|&file| file != "-") {
+        Some(file) => (file.display().to_string(), fs::read(file)),
+        None => ("standard input".to_string(), read_input()),
+    };
+    let named = |error: String| format!("{name}: {error}");
+    let bytes = bytes.map_err(|error| one(named(error.to_string())))?;
+    source::source(bytes).map_err(|errors| errors.into_iter().map(named).collect())
+}
+
+fn read_input() -> io::Result<Vec<u8>> {
     let mut bytes = Vec::new();
-    let read = io::stdin().read_to_end(&mut bytes);
-    read.map_err(|error| format!("standard input: {error}"))?;
+    io::stdin().read_to_end(&mut bytes)?;
     Ok(bytes)
 }
 
-fn by_ending(file: &str) -> Result<Vec<u8>, String> {
-    let bytes = input(Some(file))?;
-    if file.ends_with(".txt") {
-        return encode(bytes).map_err(|error| format!("{file}: {error}"));
+/// A tape of bytes is long and need not be copied.
+fn tape_of(source: Source) -> Vec<u8> {
+    match source {
+        Source::Bytes(tape) => tape,
+        Source::Text(_) => source.tape(),
     }
-    if file.ends_with(".hex") {
-        return from_hex(bytes).map_err(|error| format!("{file}: {error}"));
-    }
-    Ok(bytes)
 }
 
-fn encode(text: Vec<u8>) -> Result<Vec<u8>, String> {
-    let text = String::from_utf8(text).map_err(|error| format!("not a text tape: {error}"))?;
-    text::to_tape(&text).map_err(|error| error.to_string())
+/// Standard output with columns, in colour where that is wanted.
+fn page() -> Page<impl Write> {
+    let output = io::stdout();
+    let no_color = env::var_os("NO_COLOR");
+    let colour = Colour::wanted(output.is_terminal(), no_color.as_deref());
+    Page::new(BufWriter::new(output), colour)
 }
 
-fn from_hex(text: Vec<u8>) -> Result<Vec<u8>, String> {
-    let text = String::from_utf8(text).map_err(|error| format!("not hex digits: {error}"))?;
-    hex::to_bytes(&text).map_err(|error| error.to_string())
+fn print(bytes: &[u8]) -> Outcome {
+    let mut output = io::stdout();
+    let written = output.write_all(bytes).and_then(|()| output.flush());
+    written.map_err(|error| one(format!("standard output: {error}")))?;
+    Ok(Ending::Ended)
 }
 
-fn decode(tape: Vec<u8>) -> Result<Vec<u8>, String> {
-    let decoded = text::from_tape(&tape);
-    decoded.stop.map_or(Ok(decoded.text.into_bytes()), |stop| Err(stop.to_string()))
+fn one(error: String) -> Vec<String> {
+    vec![error]
 }
