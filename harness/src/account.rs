@@ -78,7 +78,7 @@ impl<W: Write> Account<W> {
     fn total_list(&mut self, name: &str, mut items: Vec<String>) -> io::Result<()> {
         let last = items.len().saturating_sub(1);
         items[..last].iter_mut().for_each(|item| item.push(','));
-        self.page.list("", name, items.iter().map(String::as_str))
+        self.page.list(name, items.iter().map(String::as_str))
     }
 
     fn open_seats(&self) -> Vec<String> {

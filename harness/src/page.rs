@@ -4,7 +4,7 @@ use std::io::{self, Write};
 
 use crate::colour::Colour;
 
-/// No row is wider, unless an answer leaves it no choice.
+/// A list is folded at this width.
 const WIDTH: usize = 120;
 /// As wide as an answer is but for very great numbers.
 const ANSWER: usize = 14;
@@ -21,22 +21,16 @@ impl<W: Write> Page<W> {
         Page { output, colour }
     }
 
-    /// Writes a row: what stands at the left, the answer, and its words in as many lines as they
-    /// need, each below the first.
+    /// Writes a row, which is one line: what stands at the left, the answer, and its words.
     pub fn row(&mut self, left: &str, answer: &str, words: &str) -> io::Result<()> {
-        self.list(left, answer, words.split(' '))
+        writeln!(self.output, "{left}{}{}{words}", self.colour.paint(answer), gap(answer))
     }
 
-    /// The same for items that must stay whole.
-    pub fn list<'a>(
-        &mut self,
-        left: &str,
-        answer: &str,
-        items: impl Iterator<Item = &'a str>,
-    ) -> io::Result<()> {
-        let gap = " ".repeat(ANSWER.saturating_sub(answer.len()) + GAP);
-        let items = folded(left.len() + answer.len() + gap.len(), items);
-        writeln!(self.output, "{left}{}{gap}{items}", self.colour.paint(answer))
+    /// Writes a name and its items, in as many lines as they need, each below the first.
+    pub fn list<'a>(&mut self, name: &str, items: impl Iterator<Item = &'a str>) -> io::Result<()> {
+        let gap = gap(name);
+        let items = folded(name.len() + gap.len(), items);
+        writeln!(self.output, "{name}{gap}{items}")
     }
 
     /// Writes text as it is.
@@ -48,6 +42,11 @@ impl<W: Write> Page<W> {
     pub fn flush(&mut self) -> io::Result<()> {
         self.output.flush()
     }
+}
+
+/// What stands between an answer and its words.
+fn gap(answer: &str) -> String {
+    " ".repeat(ANSWER.saturating_sub(answer.len()) + GAP)
 }
 
 /// The items behind each other from this column on. One that would pass the width begins a new

@@ -14,10 +14,8 @@ use crate::source::Source;
 use crate::tape::{SHORTEST_CALL, TapeCall, TapeReader};
 use crate::text::Written;
 
-/// A longer call is shortened.
+/// As wide as a call is but for a Setup and very great numbers. A longer one moves the rest of its row.
 const CALL: usize = 26;
-/// What stands for the rest of a shortened call.
-const REST: &str = " ..";
 /// The numbers' column is at least as wide as its heading.
 const PLACE: usize = 4;
 
@@ -113,7 +111,8 @@ impl Columns {
     }
 
     fn of(&self, played: &Played) -> String {
-        self.row(&played.place.to_string(), &shortened(&played.words))
+        let words: Vec<&str> = played.words.split_whitespace().collect();
+        self.row(&played.place.to_string(), &words.join(" "))
     }
 
     fn empty(&self) -> String {
@@ -124,16 +123,4 @@ impl Columns {
         let width = self.width;
         format!("{place:>width$}  {call:<CALL$}  ")
     }
-}
-
-/// A call's words with one blank between them. A long one loses words at its end, but no number is
-/// cut in two.
-fn shortened(words: &str) -> String {
-    let words: Vec<&str> = words.split_whitespace().collect();
-    let words = words.join(" ");
-    if words.len() <= CALL {
-        return words;
-    }
-    let end = words[..=CALL - REST.len()].rfind(' ').unwrap_or_default();
-    format!("{}{REST}", &words[..end])
 }

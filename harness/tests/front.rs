@@ -20,8 +20,6 @@ use second::stored::{self, Stored};
 use second::tape::{VERSION, calls};
 use second::{lively, meaning, text, typed, words};
 
-/// The column at which the meaning of an answer begins.
-const WORDS: usize = 50;
 /// The column at which a total begins.
 const TOTAL: usize = 16;
 
@@ -33,17 +31,15 @@ fn front(arguments: &[&str]) -> Command {
     tape(&monitor(), arguments)
 }
 
-/// The stored tapes, each with its file. A file without a word is a text tape of no calls, so the
-/// tape without a byte has no file that says so.
+/// The stored tapes, each with its file.
 fn files() -> Vec<(Stored, String)> {
     let stored = stored::all().unwrap_or_else(|error| panic!("{error}"));
-    let some = stored.into_iter().filter(|stored| !stored.tape.is_empty());
     let with_file = |stored: Stored| {
         let ending = if stored.name.starts_with("faults/") { "hex" } else { "txt" };
         let file = stored::file(&format!("tapes/{}.{ending}", stored.name));
         (stored, file.to_str().expect("a plain path").to_string())
     };
-    some.map(with_file).collect()
+    stored.into_iter().map(with_file).collect()
 }
 
 /// Plays a stored tape from its file and, where its first byte says that it is a tape, as it is.
@@ -92,18 +88,10 @@ fn every_stored_account_is_shown() {
     assert_eq!((compared, compared >= 6), (shown.len(), true), "an account without its tape");
 }
 
-/// An account without its totals: the rows below the heading, each with its folded lines as one.
-fn rows(account: &str) -> Vec<String> {
+/// An account without its totals: the rows below the heading.
+fn rows(account: &str) -> Vec<&str> {
     let (rows, _) = account.split_once("\n\n").expect("totals after an empty line");
-    let mut whole: Vec<String> = Vec::new();
-    for line in rows.lines().skip(1) {
-        assert!(line.len() <= 120 && !line.ends_with(' '), "{line}");
-        match (line.get(..WORDS).map(str::trim), whole.last_mut()) {
-            (Some(""), Some(row)) => *row += &line[WORDS - 1..],
-            _ => whole.push(line.to_string()),
-        }
-    }
-    whole
+    rows.lines().skip(1).collect()
 }
 
 #[test]
@@ -111,7 +99,8 @@ fn every_answer_and_every_number_is_met_with_its_words() {
     let mut answers = AnswerCounts::default();
     let mut met = String::new();
     for (Stored { name, lines, .. }, file) in files() {
-        let rows = rows(&told(front(&["show", &file]), b"").output);
+        let account = told(front(&["show", &file]), b"").output;
+        let rows = rows(&account);
         assert_eq!(rows.len(), lines.lines().count(), "tapes/{name}");
         for (row, line) in rows.iter().zip(lines.lines()) {
             let answer = line.split_once(' ').filter(|(first, _)| first.parse::<u64>().is_ok());
@@ -206,19 +195,19 @@ fn what_is_left_and_the_totals_are_true() {
 /// What stands for a call in its row.
 fn call_shown(call: &str) -> String {
     let shown = told(front(&["show"]), call.as_bytes());
-    let row = rows(&shown.output).swap_remove(0);
+    let row = rows(&shown.output)[0];
     let (_, call) = row.split_once("1  ").expect("the call's line");
     call.split_once("  ").expect("two columns").0.to_string()
 }
 
 #[test]
-fn a_long_call_is_shortened_between_its_numbers() {
+fn a_call_is_shown_whole_with_one_blank_between_its_words() {
     assert_eq!(call_shown("\topen   0 # mine"), "open 0");
-    assert_eq!(call_shown("write 0 0 1023 12345678901"), "write 0 0 1023 12345678901");
-    assert_eq!(call_shown("write 0 0 1023 123456789012"), "write 0 0 1023 ..");
-    assert_eq!(call_shown("setup 2 start 1 shares limits 2"), "setup 2 start 1 shares ..");
-    assert_eq!(call_shown("setup 20 start 1 shares limits"), "setup 20 start 1 shares ..");
-    assert_eq!(call_shown("setup 20 start 10 shares limits"), "setup 20 start 10 ..");
+    let numbers = " 1".repeat(16);
+    let setup = format!("setup 1024 start 0 shares{numbers} limits{numbers}");
+    for whole in ["write 0 0 1023 12345678901", "write 0 0 1023 123456789012", &setup] {
+        assert_eq!(call_shown(whole), whole);
+    }
 }
 
 #[test]
@@ -355,7 +344,6 @@ fn typed_calls_are_answered_at_once() {
         for (call, answer) in [("open 0\n", "refused 1 "), ("advance 1 2\n", "refused 1 ")] {
             input.write_all(call.as_bytes()).expect("it takes the call");
             assert!(lines.next().expect("an answer").expect("text").starts_with(answer));
-            lines.next().expect("the rest of a folded answer").expect("text");
         }
         input.write_all(b"quit\n").expect("it takes the end");
         lines.count()

@@ -48,8 +48,7 @@ fn goes_with_a_tape(path: &str, files: &Files) -> bool {
     };
     let stands_beside = |ending: &str| files.contains_key(&format!("{name}.{ending}"));
     match ending {
-        "lines" => stands_beside(tape),
-        "shown" => tape == "txt" && stands_beside(tape),
+        "lines" | "shown" => stands_beside(tape),
         _ => ending == tape && stands_beside("lines"),
     }
 }
@@ -123,17 +122,16 @@ fn made_up(files: &[(&str, &str)]) -> Files {
 
 #[test]
 fn a_stray_file_of_tapes_is_named() {
-    let good = ["README.md", "a.txt", "a.lines", "a.shown", "faults/b.hex", "faults/b.lines"];
-    let bad = [
-        "a.hex",
-        "c.txt",
-        "d.lines",
-        "e.shown",
+    let good = [
+        "README.md",
+        "a.txt",
+        "a.lines",
+        "a.shown",
+        "faults/b.hex",
+        "faults/b.lines",
         "faults/b.shown",
-        "faults/b.txt",
-        "notes",
-        "old/a.txt",
     ];
+    let bad = ["a.hex", "c.txt", "d.lines", "e.shown", "faults/b.txt", "notes", "old/a.txt"];
     let files =
         made_up(&[&good[..], &bad].concat().iter().map(|&path| (path, "")).collect::<Vec<_>>());
     assert_eq!(stray_tapes(&files), bad);
