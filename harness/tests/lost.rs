@@ -112,7 +112,8 @@ fn a_monitor_that_complains_or_fails() {
     let whole = "echo '1 ready 1'; echo '2 seat 0'; echo 'end 2'";
     both_say_of("whole-unread", &format!("{whole}; echo \"{unread}\" >&2"), unread);
     both_say_of("whole-3", &format!("{whole}; exit 3"), "the monitor ended with status 3");
-    let long = format!("yes oh | head -n 500000 >&2; {whole}");
+    let many = "n=0; until test $n = 3000; do echo oh >&2; n=$((n + 1)); done";
+    let long = format!("{many}; {whole}");
     both_say_of("long-complaint", &long, "oh");
 }
 
