@@ -7,7 +7,7 @@ FAIR = $(BUILD) --profile bench-fair
 FEATURES = --features engine,monitor
 
 .DEFAULT_GOAL = help
-.PHONY: help run show try install test quick gate-selftest proved-selftest promises lint bars parts compare host soak mutants bench size
+.PHONY: help run show try install test quick gate-selftest proved-selftest promises lint bars parts compare host commands soak mutants bench size
 
 # What a user gives is a value and no command: it is taken as written, and reaches a recipe by the environment alone.
 TAPE ?= tapes/tape-x.txt
@@ -74,6 +74,9 @@ compare: parts ## the engine and the program beside the second program
 
 host: parts ## a host in C and in C++ plays Tape X through the header, and tries every sentence of the header on the engine
 	harness/c/try include target/header
+
+commands: parts ## whether the commands do as the README says
+	tools/commands
 
 ## Longer checks
 

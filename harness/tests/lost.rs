@@ -14,6 +14,9 @@ use second::outside::{self, PATIENCE};
 /// Two calls of a text tape.
 const TEXT: &[u8] = b"setup 1 start 0 shares 1 limits 1\nopen 0\n";
 
+/// A text tape of no calls.
+const NO_CALLS: &[u8] = b"# nothing\n";
+
 /// A folder of this test's own.
 fn folder(name: &str) -> PathBuf {
     let folder = Path::new(env!("CARGO_TARGET_TMPDIR")).join("lost").join(name);
@@ -55,7 +58,7 @@ fn the_monitor_stands_beside_the_program() {
     let run = || {
         let mut command = Command::new(&path);
         command.arg("run").env_remove("MONITOR");
-        told(command, b"")
+        told(command, NO_CALLS)
     };
     assert_eq!(run().output, "end 0\n");
     let monitor = path.with_file_name("monitor");
@@ -71,7 +74,7 @@ fn a_monitor_by_its_name_alone() {
     let monitor = script("alone", "cat > /dev/null; echo 'end 0'");
     let mut command = tape(Path::new("monitor"), &["run"]);
     command.current_dir(monitor.parent().expect("its folder"));
-    assert_eq!(told(command, b"").output, "end 0\n");
+    assert_eq!(told(command, NO_CALLS).output, "end 0\n");
 }
 
 #[test]
@@ -217,4 +220,16 @@ fn a_monitor_that_is_lost_while_calls_are_typed() {
     let tried = told(tape(&dead, &["try"]), TEXT);
     assert_eq!(tried.errors, "tape: the monitor was ended by signal 9\n");
     assert_eq!(tried.status, Some(2));
+}
+
+/// The null device in place of an output that is closed would lose every line without a word.
+#[test]
+fn an_output_that_is_closed() {
+    for arguments in [&["run"][..], &["show"], &["try"], &["encode"], &["decode"], &["help"]] {
+        let mut command = Command::new("sh");
+        command.args(["-c", "exec \"$0\" \"$@\" >&-", TAPE]).args(arguments);
+        let Told { errors, status, .. } = told(command, TEXT);
+        assert_eq!(errors, "tape: standard output is closed\n", "{arguments:?}");
+        assert_eq!(status, Some(2), "{arguments:?}");
+    }
 }

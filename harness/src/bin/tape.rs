@@ -6,6 +6,7 @@ use std::ffi::{OsStr, OsString};
 use std::fs;
 use std::io::{self, BufWriter, IsTerminal, Read, Write};
 use std::process::ExitCode;
+use std::sync::atomic::{AtomicBool, Ordering};
 
 use second::colour::Colour;
 use second::line::Ending;
@@ -30,7 +31,30 @@ The exit status is 0; 1 where the tape has a fault; 2 where nothing was done or 
 /// What a command comes to, or one message to each error.
 type Outcome = Result<Ending, Vec<String>>;
 
+/// Whether standard output was open when the program began. Before `main`, Rust puts the null device
+/// in place of one that is not, and every line would be lost without a word: so it is asked earlier.
+static OUTPUT_IS_OPEN: AtomicBool = AtomicBool::new(true);
+
+#[used]
+#[unsafe(link_section = ".init_array")]
+static BEFORE_MAIN: extern "C" fn() = look_at_output;
+
+unsafe extern "C" {
+    fn fcntl(descriptor: i32, command: i32, ...) -> i32;
+}
+
+extern "C" fn look_at_output() {
+    const STANDARD_OUTPUT: i32 = 1;
+    const GET_FLAGS: i32 = 1;
+    // It asks for a number that the system has of the descriptor, and touches no memory of ours.
+    let flags = unsafe { fcntl(STANDARD_OUTPUT, GET_FLAGS) };
+    OUTPUT_IS_OPEN.store(flags >= 0, Ordering::Relaxed);
+}
+
 fn main() -> ExitCode {
+    if !OUTPUT_IS_OPEN.load(Ordering::Relaxed) {
+        return failure("tape: standard output is closed\n");
+    }
     let arguments: Vec<OsString> = env::args_os().skip(1).collect();
     let (command, file) = match &arguments[..] {
         [command] => (command.to_str(), None),
