@@ -4,10 +4,6 @@
 //! The state is kept in structures and not in the flat tables; `flat` turns the one into the
 //! other, so that each call can be compared with an engine that works on lent tables.
 //!
-//! Beside it, the front of the proved program: text tapes and what is wrong with them (`text`,
-//! `source`), and tapes played, shown and typed (`run`, `show`, `typed`). The front takes every
-//! answer from the proved program's lines, and none from the second program.
-//!
 //! Beside it stands the front of the proved program: `run`, `show` and `typed` play tapes by that
 //! program, through `player`, and know of it no more than its lines.
 

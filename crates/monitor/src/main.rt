@@ -35,8 +35,8 @@ fn complain(line: &[u8]) {
     io::write_all(STDERR_FILENO, line);
 }
 
-// Whether a read or a write that has just failed is to be made again: a signal came in between, or nothing was ready yet.
-fn is_passing() -> bool {
+// Whether a read or a write that has just failed is to be made again: a signal came in between, or nothing was ready yet. Then others run first.
+fn may_try_again() -> bool {
     let error = os::errno();
     if error == EINTR {
         return true;
@@ -59,7 +59,7 @@ fn write_once(out: &[u8], from: usize, end: usize) -> Moved
     if wrote < 0 {
         return Moved {
             to: from,
-            failed: !is_passing(),
+            failed: !may_try_again(),
         };
     }
     let n = io::count(wrote, &out[from..end]);
@@ -105,7 +105,7 @@ fn fetch(buf: &mut [u8], waiting: usize) -> Moved
                 failed: false,
             };
         }
-        if !is_passing() {
+        if !may_try_again() {
             break;
         }
         tries -= 1;
