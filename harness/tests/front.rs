@@ -103,8 +103,9 @@ fn every_answer_and_every_number_is_met_with_its_words() {
         let rows = rows(&account);
         assert_eq!(rows.len(), lines.lines().count(), "tapes/{name}");
         for (row, line) in rows.iter().zip(lines.lines()) {
-            let answer = line.split_once(' ').filter(|(first, _)| first.parse::<u64>().is_ok());
-            let answer = answer.map_or(line, |(_, answer)| answer);
+            let numbered = line.split_once(' ').filter(|(first, _)| first.parse::<u64>().is_ok());
+            let (number, answer) = numbered.unwrap_or(("", line));
+            assert!(row.contains(&format!(" {number}  ")), "tapes/{name}: {row}");
             assert!(row.contains(&format!("  {answer}  ")), "tapes/{name}: {row}");
         }
         answers.count_lines(&lines);
@@ -196,7 +197,7 @@ fn what_is_left_and_the_totals_are_true() {
 fn call_shown(call: &str) -> String {
     let shown = told(front(&["show"]), call.as_bytes());
     let row = rows(&shown.output)[0];
-    let (_, call) = row.split_once("1  ").expect("the call's line");
+    let (_, call) = row.split_once("   1   1  ").expect("the call's line and number");
     call.split_once("  ").expect("two columns").0.to_string()
 }
 
@@ -323,7 +324,7 @@ fn typed_calls_are_answered_with_their_words() {
         "seat 0          owner 0 has seat 0",
         "refused 6       the owner holds as many seats as its limit allows",
         "noted 1         seat 0 is to write 7 to record 1",
-        "value 7         record 1 is 7, as this seat will write it",
+        "value 7         record 1 is 7, as this seat is to write it",
         "locked 1        seat 0 has locked record 1",
     ];
     assert_eq!(answers, expected);
