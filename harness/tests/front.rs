@@ -354,6 +354,17 @@ fn typed_calls_are_answered_at_once() {
     assert_eq!(outside::ended(&mut front).expect("it ends").code(), Some(0));
 }
 
+#[test]
+fn help_and_the_end_may_be_asked_for_in_more_than_one_way() {
+    for help in ["help", "Help", " ? # what now"] {
+        assert!(told(front(&["try"]), help.as_bytes()).output.contains(typed::HELP), "{help}");
+    }
+    for quit in ["quit", "QUIT", "exit"] {
+        let output = told(front(&["try"]), format!("{quit}\nopen 0").as_bytes()).output;
+        assert!(output.contains("\nend 0 ") && !output.contains("not sent"), "{quit}: {output}");
+    }
+}
+
 /// Every example of the help is a call that can be typed in turn and is not refused.
 #[test]
 fn the_examples_of_the_help_can_be_typed() {
