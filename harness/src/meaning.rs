@@ -8,7 +8,7 @@ pub type Meaning = (u64, &'static str);
 pub const REFUSED: [Meaning; 12] = [
     (
         1,
-        "There are no tables to work on: no setup is ready yet, or this one asks for 0 records or for more than 1024.",
+        "There are no records to work on: no setup is ready yet, or this one asks for 0 records or for more than 1024.",
     ),
     (
         2,

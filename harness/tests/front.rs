@@ -301,7 +301,7 @@ fn colour_is_for_terminals_and_stands_beside_the_word() {
 fn calls_are_prompted_for_in_a_terminal_alone() {
     let prompted = in_a_terminal(&["try"], Some("1"), b"open 0\nquit\n");
     assert!(prompted.contains("\n> "), "{prompted}");
-    assert!(prompted.contains("refused 1       there are no tables"), "{prompted}");
+    assert!(prompted.contains("refused 1       there are no records"), "{prompted}");
     // The end of the input is typed behind a prompt.
     let ended = in_a_terminal(&["try"], Some("1"), b"\x04");
     assert!(ended.contains("\nend 0 "), "{ended}");
