@@ -29,20 +29,22 @@ fn pairs(word: &str) -> Result<Vec<u8>, String> {
         return Err(no_digits(word));
     };
     if !digits.len().is_multiple_of(2) {
-        let found = shown(word);
-        return Err(format!("'{found}' has a digit too few or too many: a byte is two hex digits"));
+        return Err(no_byte(word, "has a digit too few or too many"));
     }
     Ok(digits.chunks(2).map(|pair| (pair[0] * 16 + pair[1]) as u8).collect())
 }
 
-/// A text tape that begins with a digit by mistake is met here too.
 fn no_digits(word: &str) -> String {
-    let found = shown(word);
     if begins_with_0x(word) {
-        return format!("'{found}' begins with 0x: write the hex digits alone");
+        return format!("'{}' begins with 0x: write the hex digits alone", shown(word));
     }
+    no_byte(word, "is no byte")
+}
+
+/// A text tape that begins with a digit by mistake is met here too.
+fn no_byte(word: &str, why: &str) -> String {
     format!(
-        "'{found}' is no byte, and this file is read as hex digits: \
-         a byte is two of 0 to 9 and a to f"
+        "'{}' {why}, and this file is read as hex digits: a byte is two of 0 to 9 and a to f",
+        shown(word)
     )
 }

@@ -31,6 +31,7 @@ pub mod observer;
 pub mod odd;
 pub mod outside;
 pub mod page;
+pub mod plain;
 pub mod plan;
 pub mod player;
 pub mod program;

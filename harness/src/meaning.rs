@@ -8,7 +8,7 @@ pub type Meaning = (u64, &'static str);
 pub const REFUSED: [Meaning; 12] = [
     (
         1,
-        "There are no tables to work on: no setup is ready yet, or this one asks for 0 records or for more than 1024.",
+        "There are no records to work on: no setup is ready yet, or this one asks for 0 records or for more than 1024.",
     ),
     (
         2,
@@ -38,7 +38,7 @@ pub const ABORTED: [Meaning; 4] = [
     (22, "A record that this seat has read was stored over since, or its write time was moved on."),
     (
         23,
-        "A record that this seat has read is locked by another, which may write it before this seat's time.",
+        "A record that this seat has read is locked by another, and no read of it is later than this seat's time.",
     ),
     (24, "No time is left above the last read of a record that this seat is to write."),
 ];
@@ -47,7 +47,7 @@ pub const ABORTED: [Meaning; 4] = [
 pub const STOPPED: [Meaning; 4] = [
     (31, "The tape does not begin with the version byte 1."),
     (32, "The tape ends in the middle of a call."),
-    (33, "A call has not the length that its kind has."),
+    (33, "A call's length is 0, or it is not the one of its kind."),
     (34, "A call's kind is none of the six."),
 ];
 

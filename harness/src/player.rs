@@ -12,6 +12,7 @@ use std::sync::Arc;
 use std::thread::{self, JoinHandle};
 
 use crate::line::{Ending, LONGEST_LINE};
+use crate::plain::plain;
 
 /// As many bytes as a pipe gives at once.
 const PART: usize = 1 << 16;
@@ -32,7 +33,7 @@ pub enum Lost {
 
 /// An output that takes no more.
 pub fn unwritten(error: io::Error) -> Lost {
-    Lost::Because(format!("the lines can't be written: {error}"))
+    Lost::Because(format!("the lines can't be written: {}", plain(&error)))
 }
 
 /// The proved program: what `MONITOR` names, or else the file `monitor` beside this program.

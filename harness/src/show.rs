@@ -16,12 +16,13 @@ use crate::text::Written;
 
 /// As wide as a call is but for a Setup and very great numbers. A longer one moves the rest of its row.
 const CALL: usize = 26;
-/// The numbers' column is at least as wide as its heading.
-const PLACE: usize = 4;
+/// The headings of the columns with numbers, which are at least as wide.
+const LINE: &str = "line";
+const NUMBER: &str = "no";
 
-/// A call of the tape, with its place there and its words.
+/// A call of the tape, with its words and the line of a text tape that it stands on.
 struct Played<'a> {
-    place: usize,
+    line: Option<usize>,
     words: Cow<'a, str>,
     call: TapeCall,
 }
@@ -31,12 +32,12 @@ pub fn show(monitor: &Path, source: Source, page: Page<impl Write>) -> Result<En
     match source {
         Source::Text(ref written) => {
             let last = written.last().map_or(0, |written| written.line);
-            let columns = Columns::new("line", last);
+            let columns = Columns::new(Some(last), written.len());
             play(monitor, Arc::new(source.tape()), page, columns, of_text(written))
         }
         Source::Bytes(tape) => {
             let tape = Arc::new(tape);
-            let columns = Columns::new("no", tape.len() / SHORTEST_CALL);
+            let columns = Columns::new(None, tape.len() / SHORTEST_CALL);
             play(monitor, Arc::clone(&tape), page, columns, of_bytes(&tape))
         }
     }
@@ -63,9 +64,9 @@ fn rows<'a>(
     calls: impl Iterator<Item = Played<'a>>,
 ) -> Result<Ending, Lost> {
     account.page.row(&columns.heading(), "answer", "what it means").map_err(unwritten)?;
-    for played in calls {
+    for (number, played) in (1..).zip(calls) {
         let line = next_line(player, &mut account)?;
-        account.answer(&columns.of(&played), &played.call, &line)?;
+        account.answer(&columns.of(number, &played), &played.call, &line)?;
     }
     let line = next_line(player, &mut account)?;
     account.last(&columns.empty(), &line)
@@ -81,7 +82,7 @@ fn next_line(player: &mut Player, account: &mut Account<impl Write>) -> Result<S
 
 fn of_text(written: &[Written]) -> impl Iterator<Item = Played<'_>> {
     written.iter().map(|&Written { line, ref words, call }| Played {
-        place: line,
+        line: Some(line),
         words: Cow::Borrowed(words),
         call,
     })
@@ -91,36 +92,43 @@ fn of_text(written: &[Written]) -> impl Iterator<Item = Played<'_>> {
 fn of_bytes(tape: &[u8]) -> impl Iterator<Item = Played<'static>> {
     let mut reader = TapeReader::new(tape).ok();
     let calls = iter::from_fn(move || reader.as_mut()?.next_call().ok().flatten());
-    (1..).zip(calls).map(|(place, call)| Played { place, words: call.to_string().into(), call })
+    calls.map(|call| Played { line: None, words: call.to_string().into(), call })
 }
 
-/// The columns before the answer: a call's place on the tape, and its words.
+/// The columns before the answer: a call's line, where the tape is a text, its number, as the
+/// monitor's lines have it, and its words.
 struct Columns {
-    place: &'static str,
-    width: usize,
+    line_width: Option<usize>,
+    number_width: usize,
 }
 
 impl Columns {
-    /// With this heading, and room for places up to the last.
-    fn new(place: &'static str, last: usize) -> Columns {
-        Columns { place, width: last.to_string().len().max(PLACE) }
+    /// With room for lines up to the last, and for so many calls.
+    fn new(last_line: Option<usize>, calls: usize) -> Columns {
+        let width = |heading: &str, most: usize| most.to_string().len().max(heading.len());
+        Columns {
+            line_width: last_line.map(|last| width(LINE, last)),
+            number_width: width(NUMBER, calls),
+        }
     }
 
     fn heading(&self) -> String {
-        self.row(self.place, "call")
+        self.row(LINE, NUMBER, "call")
     }
 
-    fn of(&self, played: &Played) -> String {
+    fn of(&self, number: usize, played: &Played) -> String {
+        let line = played.line.map_or_else(String::new, |line| line.to_string());
         let words: Vec<&str> = played.words.split_whitespace().collect();
-        self.row(&played.place.to_string(), &words.join(" "))
+        self.row(&line, &number.to_string(), &words.join(" "))
     }
 
     fn empty(&self) -> String {
-        self.row("", "")
+        self.row("", "", "")
     }
 
-    fn row(&self, place: &str, call: &str) -> String {
-        let width = self.width;
-        format!("{place:>width$}  {call:<CALL$}  ")
+    fn row(&self, line: &str, number: &str, call: &str) -> String {
+        let line = self.line_width.map_or_else(String::new, |width| format!("{line:>width$}  "));
+        let width = self.number_width;
+        format!("{line}{number:>width$}  {call:<CALL$}  ")
     }
 }

@@ -99,5 +99,9 @@ fn is_control(byte: u8) -> bool {
 fn no_tape(bytes: &[u8]) -> String {
     let first: Vec<String> =
         bytes.iter().take(MOST_SHOWN).map(|byte| format!("{byte:02X}")).collect();
-    format!("the file is no tape: it begins with the bytes {}, but {BEGINNINGS}", first.join(" "))
+    format!(
+        "the file is no tape: it begins with the bytes {}, but {BEGINNINGS}; \
+         save a text tape as plain text",
+        first.join(" ")
+    )
 }

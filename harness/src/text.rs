@@ -119,9 +119,12 @@ fn not_a_call(name: &str) -> String {
     if CALLS.contains(&&small[..]) {
         return format!("'{found}' is not a call: calls are written in small letters, as {small}");
     }
-    let meant = nearest(name, &CALLS).map(|call| format!("; did you mean {call}?"));
-    let calls = CALLS.join(", ");
-    format!("'{found}' is not a call: the calls are {calls}{}", meant.unwrap_or_default())
+    let advice = match nearest(name, &CALLS) {
+        Some(call) => format!("; did you mean {call}?"),
+        None if name.starts_with(char::is_alphanumeric) => String::new(),
+        None => "; a remark begins with #".to_string(),
+    };
+    format!("'{found}' is not a call: the calls are {}{advice}", CALLS.join(", "))
 }
 
 /// The words of a Setup that are not yet taken.

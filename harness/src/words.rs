@@ -42,7 +42,7 @@ fn ready(count: u64, start: u64) -> String {
 /// stored since.
 fn read(seat: &Seat, record: u64, value: u64) -> String {
     if seat.writes.contains_key(&record) {
-        return format!("record {record} is {value}, as this seat will write it");
+        return format!("record {record} is {value}, as this seat is to write it");
     }
     if seat.reads.contains(&record) {
         return format!("record {record} was {value} when this seat first read it");

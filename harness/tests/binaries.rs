@@ -93,8 +93,11 @@ fn a_file_that_is_no_tape_is_told_with_its_name_and_line() {
     let bad = bad.to_str().expect("a plain path");
     for command in ["bytes", "encode", "decode", "run", "show"] {
         fails(told(tape(&[command, bad]), b""), &[&message]);
-        fails(told(tape(&[command, "no-such-tape"]), b""), &["tape: no-such-tape: "]);
+        let missing = "tape: no-such-tape: there is no such file";
+        fails(told(tape(&[command, "no-such-tape"]), b""), &[missing]);
     }
+    fails(told(tape(&["encode", "/"]), b""), &["tape: /: this is a folder, and a file is wanted"]);
+    fails(told(tape(&["encode", ""]), b""), &["tape: the name of the file is empty"]);
     fails(told(tape(&["encode"]), b"\xff"), &["tape: standard input: "]);
 }
 
@@ -133,6 +136,6 @@ fn an_output_that_is_full() {
     for arguments in [&["help"][..], &["encode"], &["decode"]] {
         let full = File::options().write(true).open("/dev/full").expect("a device that is full");
         let told = told_into(full, tape(arguments), b"open 0\n");
-        fails(told, &["tape: standard output: "]);
+        fails(told, &["tape: standard output: there is no room left"]);
     }
 }

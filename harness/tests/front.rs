@@ -103,8 +103,9 @@ fn every_answer_and_every_number_is_met_with_its_words() {
         let rows = rows(&account);
         assert_eq!(rows.len(), lines.lines().count(), "tapes/{name}");
         for (row, line) in rows.iter().zip(lines.lines()) {
-            let answer = line.split_once(' ').filter(|(first, _)| first.parse::<u64>().is_ok());
-            let answer = answer.map_or(line, |(_, answer)| answer);
+            let numbered = line.split_once(' ').filter(|(first, _)| first.parse::<u64>().is_ok());
+            let (number, answer) = numbered.unwrap_or(("", line));
+            assert!(row.contains(&format!(" {number}  ")), "tapes/{name}: {row}");
             assert!(row.contains(&format!("  {answer}  ")), "tapes/{name}: {row}");
         }
         answers.count_lines(&lines);
@@ -196,7 +197,7 @@ fn what_is_left_and_the_totals_are_true() {
 fn call_shown(call: &str) -> String {
     let shown = told(front(&["show"]), call.as_bytes());
     let row = rows(&shown.output)[0];
-    let (_, call) = row.split_once("1  ").expect("the call's line");
+    let (_, call) = row.split_once("   1   1  ").expect("the call's line and number");
     call.split_once("  ").expect("two columns").0.to_string()
 }
 
@@ -226,8 +227,8 @@ fn an_output_that_is_full() {
     for command in ["run", "show", "try"] {
         let full = File::options().write(true).open("/dev/full").expect("a device that is full");
         let Told { errors, status, .. } = told_into(full, front(&[command]), b"open 0\n");
-        assert!(errors.starts_with("tape: the lines can't be written: "), "{command}: {errors}");
-        assert_eq!((errors.lines().count(), status), (1, Some(2)), "{command}");
+        let full = "tape: the lines can't be written: there is no room left\n";
+        assert_eq!((errors.as_str(), status), (full, Some(2)), "{command}");
     }
 }
 
@@ -255,8 +256,8 @@ fn a_reader_that_goes_away() {
             .expect("its errors are piped")
             .read_to_string(&mut errors)
             .expect("text");
-        assert!(errors.starts_with("tape: the lines can't be written: "), "{command}: {errors}");
-        assert_eq!((errors.lines().count(), status.code()), (1, Some(2)), "{command}");
+        let gone = "tape: the lines can't be written: nobody reads on\n";
+        assert_eq!((errors.as_str(), status.code()), (gone, Some(2)), "{command}");
     }
 }
 
@@ -300,7 +301,7 @@ fn colour_is_for_terminals_and_stands_beside_the_word() {
 fn calls_are_prompted_for_in_a_terminal_alone() {
     let prompted = in_a_terminal(&["try"], Some("1"), b"open 0\nquit\n");
     assert!(prompted.contains("\n> "), "{prompted}");
-    assert!(prompted.contains("refused 1       there are no tables"), "{prompted}");
+    assert!(prompted.contains("refused 1       there are no records"), "{prompted}");
     // The end of the input is typed behind a prompt.
     let ended = in_a_terminal(&["try"], Some("1"), b"\x04");
     assert!(ended.contains("\nend 0 "), "{ended}");
@@ -323,7 +324,7 @@ fn typed_calls_are_answered_with_their_words() {
         "seat 0          owner 0 has seat 0",
         "refused 6       the owner holds as many seats as its limit allows",
         "noted 1         seat 0 is to write 7 to record 1",
-        "value 7         record 1 is 7, as this seat will write it",
+        "value 7         record 1 is 7, as this seat is to write it",
         "locked 1        seat 0 has locked record 1",
     ];
     assert_eq!(answers, expected);
@@ -351,6 +352,17 @@ fn typed_calls_are_answered_at_once() {
     // The last line, an empty one and six totals.
     assert_eq!(talked.expect("it answers"), 8);
     assert_eq!(outside::ended(&mut front).expect("it ends").code(), Some(0));
+}
+
+#[test]
+fn help_and_the_end_may_be_asked_for_in_more_than_one_way() {
+    for help in ["help", "Help", " ? # what now"] {
+        assert!(told(front(&["try"]), help.as_bytes()).output.contains(typed::HELP), "{help}");
+    }
+    for quit in ["quit", "QUIT", "exit"] {
+        let output = told(front(&["try"]), format!("{quit}\nopen 0").as_bytes()).output;
+        assert!(output.contains("\nend 0 ") && !output.contains("not sent"), "{quit}: {output}");
+    }
 }
 
 /// Every example of the help is a call that can be typed in turn and is not refused.

@@ -66,7 +66,7 @@ fn a_second_read_tells_what_the_seat_knows() {
     let again = last_words(&[open, read, read]);
     assert_eq!(again.as_deref(), Some("record 5 was 7 when this seat first read it"));
     let own = last_words(&[open, read, "write 0 0 5 9: noted 5", "read 0 0 5: value 9"]);
-    assert_eq!(own.as_deref(), Some("record 5 is 9, as this seat will write it"));
+    assert_eq!(own.as_deref(), Some("record 5 is 9, as this seat is to write it"));
     // A seat that was given back has read nothing.
     let anew = last_words(&[open, read, "abandon 0 0: dropped 0", open, read]);
     assert_eq!(anew.as_deref(), Some("record 5 is 7"));

@@ -60,7 +60,7 @@ fn any_other_text_is_a_text_tape() {
 #[test]
 fn errors_are_told_by_the_kind_of_the_file() {
     told(b"open 0\nopen 256", "line 2: owner 256: owners are 0 to 15");
-    told(b"01\n0 # half", "line 2: '0' has a digit too few or too many: a byte is two hex digits");
+    told(b"01\n0x # not so", "line 2: '0x' begins with 0x: write the hex digits alone");
     let many = source(b"open 256\n".repeat(25)).expect_err("25 errors");
     assert_eq!((many.len(), &many[20][..]), (21, "5 more errors"));
     let many = source([b"hex\n".to_vec(), b"z\n".repeat(25)].concat()).expect_err("25 errors");
@@ -70,14 +70,11 @@ fn errors_are_told_by_the_kind_of_the_file() {
 #[test]
 fn what_is_no_hex_digit_is_told() {
     let error = |digits: &str| hex::to_bytes(digits).expect_err(digits).to_string();
-    let read_as = "is no byte, and this file is read as hex digits: \
-                   a byte is two of 0 to 9 and a to f";
-    assert_eq!(
-        error("1 open 0"),
-        "line 1: '1' has a digit too few or too many: a byte is two hex digits"
-    );
-    assert_eq!(error("01 open 0"), format!("line 1: 'open' {read_as}"));
-    assert_eq!(error("hex\nhex 01"), format!("line 2: 'hex' {read_as}"));
+    let read_as = "and this file is read as hex digits: a byte is two of 0 to 9 and a to f";
+    let odd = format!("has a digit too few or too many, {read_as}");
+    assert_eq!(error("1 open 0"), format!("line 1: '1' {odd}"));
+    assert_eq!(error("01 open 0"), format!("line 1: 'open' is no byte, {read_as}"));
+    assert_eq!(error("hex\nhex 01"), format!("line 2: 'hex' is no byte, {read_as}"));
     assert_eq!(error("0x01"), "line 1: '0x01' begins with 0x: write the hex digits alone");
     assert_eq!(
         error("01,02"),
@@ -85,7 +82,7 @@ fn what_is_no_hex_digit_is_told() {
     );
     assert_eq!(
         error("hex\n０１\n\n01 zz yy\n"),
-        format!("line 2: '０１' {read_as}\nline 4: 'zz' {read_as}")
+        format!("line 2: '０１' is no byte, {read_as}\nline 4: 'zz' is no byte, {read_as}")
     );
 }
 
@@ -98,7 +95,7 @@ fn an_empty_file_is_told_what_a_tape_begins_with() {
 fn a_file_that_is_no_tape_is_told_what_it_begins_with() {
     let no_tape = |file: &[u8], first: &str| {
         let what = format!("the file is no tape: it begins with the bytes {first}, but");
-        told(file, &format!("{what} {BEGINNINGS}"));
+        told(file, &format!("{what} {BEGINNINGS}; save a text tape as plain text"));
     };
     no_tape(b"\x89PNG\r\n\x1a\n\0\0\0\rIHDR", "89 50 4E 47");
     no_tape(b"\x7fELF\x02\x01\x01", "7F 45 4C 46");

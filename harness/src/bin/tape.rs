@@ -11,6 +11,7 @@ use std::sync::atomic::{AtomicBool, Ordering};
 use second::colour::Colour;
 use second::line::Ending;
 use second::page::Page;
+use second::plain::plain;
 use second::source::{self, Source};
 use second::{player, run, show, text, typed};
 
@@ -118,12 +119,15 @@ fn decode(file: Option<&OsStr>) -> Outcome {
 
 /// What a file holds; without one, what standard input does.
 fn read(file: Option<&OsStr>) -> Result<Source, Vec<String>> {
+    if file.is_some_and(OsStr::is_empty) {
+        return Err(one("the name of the file is empty".to_string()));
+    }
     let (name, bytes) = match file.filter(|&file| file != "-") {
         Some(file) => (file.display().to_string(), fs::read(file)),
         None => ("standard input".to_string(), read_input()),
     };
     let named = |error: String| format!("{name}: {error}");
-    let bytes = bytes.map_err(|error| one(named(error.to_string())))?;
+    let bytes = bytes.map_err(|error| one(named(plain(&error))))?;
     source::source(bytes).map_err(|errors| errors.into_iter().map(named).collect())
 }
 
@@ -152,7 +156,7 @@ fn page() -> Page<impl Write> {
 fn print(bytes: &[u8]) -> Outcome {
     let mut output = io::stdout();
     let written = output.write_all(bytes).and_then(|()| output.flush());
-    written.map_err(|error| one(format!("standard output: {error}")))?;
+    written.map_err(|error| one(format!("standard output: {}", plain(&error))))?;
     Ok(Ending::Ended)
 }
 
