@@ -21,7 +21,7 @@ export TAPE PREFIX SOAK
 ## To use it
 
 help: ## this list
-	@awk -F ':.*## ' '/^## / { print substr($$0, 4) } /^[a-z-]+:.*## / { printf "  make %-14s %s\n", $$1, $$2 }' Makefile
+	@awk -F ':.*## ' '/^## / { print substr($$0, 4) } /^[a-z-]+:.*## / { printf "  make %-15s %s\n", $$1, $$2 }' Makefile
 
 run: ## the lines of one tape, as text, hex digits or bytes: make run TAPE=tapes/lesson-3.txt
 	@tools/play run "$$TAPE"
