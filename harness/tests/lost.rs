@@ -130,7 +130,9 @@ fn lines_that_break_off() {
     let last = "printf '1 ready 1\\n2 seat 0\\nend 2'";
     both_say_of("half-end", last, break_off);
     both_say_of("no-end", "printf '1 ready 1\\n2 seat 0\\n'", break_off);
-    both_say_of("blank", "printf '1 ready 1\\n2 seat 0\\nend 2\\n\\n' | head -c 19", break_off);
+    // `show` reads no further than the last line.
+    let blank = script("blank", "printf '1 ready 1\\n2 seat 0\\nend 2\\n\\n'");
+    assert_eq!(told(tape(&blank, &["run"]), TEXT).errors, format!("tape: {break_off}\n"));
 }
 
 /// `run` passes on what it is told, whatever it is; `show` has no words for it.
