@@ -4,7 +4,7 @@
 mod called;
 
 use std::fs;
-use std::io::{BufRead, BufReader, Read};
+use std::io::{BufReader, Read};
 use std::path::{Path, PathBuf};
 use std::process::{Command, Stdio};
 
@@ -183,27 +183,35 @@ fn a_line_without_an_end_is_not_waited_for() {
     assert_eq!(shown.status, Some(2));
 }
 
-/// The monitor tells a line, and goes on only once that line has come through.
+/// Whether this text comes, and nothing behind it is waited for.
+fn comes(text: &str, from: impl Read) -> bool {
+    let mut come = Vec::new();
+    from.bytes().map_while(Result::ok).any(|byte| {
+        come.push(byte);
+        come.ends_with(text.as_bytes())
+    })
+}
+
+/// The monitor tells a line and a half, and goes on only once they have come through. `show` has no
+/// words for half a line.
 #[test]
 fn lines_are_passed_on_as_they_come() {
-    for command in ["run", "show"] {
+    for (command, text) in [("run", "1 ready 1\n2 se"), ("show", "at time 0\n")] {
         let go = folder(command).join("go");
         fs::remove_file(&go).ok();
         let wait = format!("until test -e '{}'; do sleep 0.02; done", go.display());
-        let lines = "echo '2 seat 0'; echo 'end 2'";
-        let monitor = script(command, &format!("echo '1 ready 1'; {wait}; {lines}"));
+        let (first, rest) = ("printf '1 ready 1\\n2 se'", "printf 'at 0\\nend 2\\n'");
+        let monitor = script(command, &format!("{first}; {wait}; {rest}"));
         let mut front = tape(&monitor, &[command]);
         front.stdin(Stdio::piped()).stdout(Stdio::piped());
         let mut front = outside::start(&mut front).unwrap_or_else(|error| panic!("{error}"));
         let feed = outside::bytes(TEXT);
         feed(front.stdin.take()).expect("it is fed");
         let mut output = BufReader::new(front.stdout.take().expect("its output is piped"));
-        let first = outside::within(PATIENCE, &mut front, || {
-            output.by_ref().lines().map_while(Result::ok).find(|line| line.contains("ready 1"))
-        });
+        let first = outside::within(PATIENCE, &mut front, || comes(text, &mut output));
         fs::write(&go, "").expect("the folder can be written");
         let status = outside::ended(&mut front).expect("it ends");
-        assert!(first.is_ok_and(|first| first.is_some()), "{command}");
+        assert!(first.is_ok_and(|came| came), "{command}");
         assert_eq!(status.code(), Some(0), "{command}");
     }
 }
