@@ -9,7 +9,7 @@ use crate::line::Ending;
 use crate::page::Page;
 use crate::player::{Lost, Player, unwritten};
 use crate::tape::{self, TapeCall, VERSION};
-use crate::text;
+use crate::{text, text_line};
 
 /// How to begin.
 const HINT: &str = "type a call, first a setup, as 'setup 2 start 0 shares 1 limits 1'; \
@@ -120,7 +120,7 @@ fn typed(input: &mut impl BufRead) -> Result<Typed, Lost> {
         return Ok(Typed::End);
     }
     let line = String::from_utf8_lossy(&line);
-    match line.split('#').next().unwrap_or_default().trim() {
+    match text_line::code(&line) {
         "help" => return Ok(Typed::Help),
         "quit" => return Ok(Typed::Quit),
         _ => {}

@@ -210,6 +210,26 @@ fn a_call_is_shown_whole_with_one_blank_between_its_words() {
     }
 }
 
+/// From 10000 on a place is wider than its heading, and every row leaves it room.
+#[test]
+fn places_have_a_column_as_wide_as_the_last() {
+    let text = "\n".repeat(9_998) + "open 0\nopen 0\n";
+    let tape = text::to_tape(&"open 0\n".repeat(10_000)).expect("a good tape");
+    for (input, heading) in [(text.as_bytes(), " line"), (&tape, "   no")] {
+        let shown = told(front(&["show"]), input).output;
+        assert!(shown.starts_with(&format!("{heading}  call  ")), "{heading}");
+        for row in [" 9999  open 0  ", "10000  open 0  "] {
+            assert!(shown.lines().any(|line| line.starts_with(row)), "{heading}: {row}");
+        }
+    }
+}
+
+#[test]
+fn without_a_setup_there_are_no_records() {
+    let shown = told(front(&["show"]), b"open 0\n").output;
+    assert!(shown.ends_with("records         there are none\n"), "{shown}");
+}
+
 #[test]
 fn long_tapes_come_through_whole() {
     let tape = ORDINARY.tape(200_000);
@@ -364,8 +384,10 @@ fn the_examples_of_the_help_can_be_typed() {
         examples.iter().map(|call| call.split(' ').next()).collect::<Vec<_>>(),
         names.map(Some)
     );
-    let tried =
-        told(front(&["try"]), format!("help\n{}\nquit\nno more", examples.join("\n")).as_bytes());
+    let tried = told(
+        front(&["try"]),
+        format!("help # all\n{}\nquit # now\nno more", examples.join("\n")).as_bytes(),
+    );
     assert!(tried.output.contains(typed::HELP) && !tried.output.contains("not sent"));
     let told = totals(&tried.output);
     assert_eq!((told["refused"].as_str(), told["dropped"].as_str()), ("0", "1"));

@@ -143,6 +143,7 @@ fn lines_that_answer_another_call_have_no_words() {
         "1 value 0",
         "1 aborted 21",
         "1 refused 12",
+        "0 ready 1",
         "2 ready 1",
         "1 ready x",
         "1 ready",
