@@ -281,6 +281,19 @@ fn a_reader_that_goes_away() {
 }
 
 #[test]
+fn an_input_that_cannot_be_read_is_told() {
+    let folder = env!("CARGO_TARGET_TMPDIR");
+    for command in ["run", "show", "try"] {
+        let mut unread = Command::new("sh");
+        unread.args(["-c", "exec \"$0\" \"$1\" < \"$2\"", TAPE, command, folder]);
+        unread.env("MONITOR", monitor());
+        let Told { errors, status, .. } = told(unread, b"");
+        assert!(errors.starts_with("tape: standard input: "), "{command}: {errors}");
+        assert_eq!((errors.lines().count(), status), (1, Some(2)), "{command}");
+    }
+}
+
+#[test]
 fn a_stack_that_is_too_small_is_told() {
     for command in ["run", "show", "try"] {
         let mut small = Command::new("sh");

@@ -6,7 +6,6 @@ mod monitored;
 use std::io::{self, Read, Write};
 use std::os::fd::OwnedFd;
 use std::os::unix::net::UnixStream;
-use std::path::{Path, PathBuf};
 use std::process::{Command, Output, Stdio};
 use std::thread;
 use std::time::Duration;
@@ -20,22 +19,24 @@ use second::stored;
 /// nothing was tried: a program may well be built so that no library comes before it.
 const FAILED: &str = "interrupted: reads and writes have failed\n";
 
-/// The library that fails reads and writes, built from its source.
-fn interrupted() -> PathBuf {
-    let library = Path::new(env!("CARGO_TARGET_TMPDIR")).join("interrupted.so");
+/// The library that fails reads and writes, by its name in its folder: the system takes a blank in
+/// a longer path for the end of that path.
+const LIBRARY: &str = "./interrupted.so";
+const FOLDER: &str = env!("CARGO_TARGET_TMPDIR");
+
+fn build_library() {
     let mut compiler = Command::new("gcc");
-    compiler.args(["-std=gnu11", "-Wall", "-Wextra", "-Werror", "-shared", "-fPIC", "-o"]);
-    compiler.arg(&library).arg(stored::file("harness/c/interrupted.c"));
+    compiler.args(["-std=gnu11", "-Wall", "-Wextra", "-Werror", "-shared", "-fPIC", "-o", LIBRARY]);
+    compiler.arg(stored::file("harness/c/interrupted.c")).current_dir(FOLDER);
     assert!(compiler.status().expect("gcc is there").success());
-    library
 }
 
 #[test]
 fn interrupted_calls_are_made_again() {
-    let library = interrupted();
+    build_library();
     for tape in [vec![], vec![1], ORDINARY.tape(100), ORDINARY.tape(100_000)] {
         let mut command = Command::new(monitor());
-        command.env("LD_PRELOAD", &library);
+        command.env("LD_PRELOAD", LIBRARY).current_dir(FOLDER);
         command.stdin(Stdio::piped()).stdout(Stdio::piped()).stderr(Stdio::piped());
         let output = output(command, &tape, outside::bytes(&tape));
         assert_second_tells(&tape, &String::from_utf8_lossy(&output.stdout));
