@@ -4,7 +4,7 @@
 mod called;
 
 use std::fs;
-use std::io::{BufReader, Read};
+use std::io::{BufRead, BufReader};
 use std::path::{Path, PathBuf};
 use std::process::{Command, Stdio};
 
@@ -185,7 +185,7 @@ fn a_line_without_an_end_is_not_waited_for() {
 }
 
 /// Whether this text comes, and nothing behind it is waited for.
-fn comes(text: &str, from: impl Read) -> bool {
+fn comes(text: &str, from: impl BufRead) -> bool {
     let mut come = Vec::new();
     from.bytes().map_while(Result::ok).any(|byte| {
         come.push(byte);
