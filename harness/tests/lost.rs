@@ -160,6 +160,9 @@ fn lines_that_answer_another_call_have_no_words() {
         let odd = format!("tape: this is no line of the monitor's, or not here: '{line}'\n");
         assert_eq!((shown.errors, shown.status), (odd, Some(2)));
     }
+    let unseen = script("unseen", "printf '1 \\033[31mready 1\\n'");
+    let shown = told(tape(&unseen, &["show"]), TEXT).errors;
+    assert!(shown.ends_with(" '1 \\u{1b}[31mready 1'\n"), "{shown}");
     let more = script("more", "printf '1 ready 1\\n2 seat 0\\n3 seat 1\\nend 3\\n'");
     assert!(told(tape(&more, &["show"]), TEXT).errors.ends_with(" '3 seat 1'\n"));
     assert_eq!(told(tape(&more, &["run"]), TEXT).status, Some(0));
