@@ -89,7 +89,7 @@ enum ponsevran_word {
 enum ponsevran_refusal {
     PONSEVRAN_REFUSED_LENGTHS = 1,        /* No records, too many, not as many words as values, or a seat table of another length. */
     PONSEVRAN_REFUSED_OUT_OF_RANGE = 2,   /* There is no such owner, seat or record, or the start is above the greatest time. */
-    PONSEVRAN_REFUSED_DAMAGED = 3,        /* The seat's row (for Open: the plan, or any row) holds what calls never put there. */
+    PONSEVRAN_REFUSED_DAMAGED = 3,        /* The seat's row is damaged (for Open: the plan, or whose the seats are). Not all damage is found. */
     PONSEVRAN_REFUSED_NOT_YOURS = 4,      /* The seat is free, or it is another owner's. */
     PONSEVRAN_REFUSED_WRONG_PHASE = 5,    /* Too late: a Read or a Write after the first Advance, or an Abandon once it is sealed. */
     PONSEVRAN_REFUSED_AT_LIMIT = 6,       /* The owner holds as many seats as its limit allows. */
@@ -105,7 +105,7 @@ enum ponsevran_abort {
     PONSEVRAN_ABORTED_LOCK_MET = 21,          /* Another seat has locked a record that this one is to write. */
     PONSEVRAN_ABORTED_OVERWRITTEN = 22,       /* A record was stored over since this seat read it, or its write time was moved on. */
     PONSEVRAN_ABORTED_LOCKED_BY_ANOTHER = 23, /* Another seat has locked a record that this one read, and may write it before this one's time. */
-    PONSEVRAN_ABORTED_END_OF_TIME = 24        /* No time is left above the last read of a record that this seat is to write. */
+    PONSEVRAN_ABORTED_END_OF_TIME = 24        /* No time is left above the last read of a record that this seat is to write. Only a new Setup gives some. */
 };
 
 #ifdef __cplusplus
@@ -121,7 +121,8 @@ uint64_t ponsevran_setup(const uint64_t *values, size_t values_len, uint64_t *wo
 uint64_t ponsevran_open(const uint64_t *values, size_t values_len, const uint64_t *words, size_t words_len, uint64_t *seats, size_t seats_len,
                         uint64_t owner, uint64_t *number);
 
-/* Read gives the value that this seat has noted for the record, or else the one that it has read before, or else the record's. */
+/* Read gives the value that this seat has noted for the record, or else the one that it has read before, or else the record's.
+ * Only where it has given the record's own value does the record count as read. */
 uint64_t ponsevran_read(const uint64_t *values, size_t values_len, const uint64_t *words, size_t words_len, uint64_t *seats, size_t seats_len,
                         uint64_t owner, uint64_t seat, uint64_t record, uint64_t *number);
 

@@ -117,6 +117,19 @@ static int keeps_to_the_limit(void) {
     return GIVES(SETUP(0), PONSEVRAN_READY, 1) && GIVES(OPEN(0), PONSEVRAN_SEAT, 0) && REFUSES(OPEN(0), PONSEVRAN_REFUSED_AT_LIMIT);
 }
 
+/* Owner 1 has all seats but one for its share, and still gets them when owner 0 has taken the one that is left. */
+static int keeps_the_shares(void) {
+    if (!begins(1, 0))
+        return 0;
+    plan[1] = PONSEVRAN_MOST_SEATS - 1;
+    if (!GIVES(SETUP(0), PONSEVRAN_READY, 1) || !GIVES(OPEN(0), PONSEVRAN_SEAT, 0) || !REFUSES(OPEN(0), PONSEVRAN_REFUSED_NO_SEAT))
+        return 0;
+    for (uint64_t seat = 1; seat < PONSEVRAN_MOST_SEATS; seat++)
+        if (!GIVES(OPEN(1), PONSEVRAN_SEAT, seat))
+            return 0;
+    return 1;
+}
+
 /* Whether Setup refuses the plan in which owner 0 has these and owner 1 a share of one seat. */
 static int refuses_plan(uint64_t share, uint64_t limit) {
     plan[0] = share;
@@ -148,10 +161,24 @@ static int writes_the_most(void) {
     return REFUSES(WRITE(0, 0, PONSEVRAN_MOST_WRITES, 7), PONSEVRAN_REFUSED_WRITES_FULL);
 }
 
+static int locks_a_write(void) {
+    return GIVES(OPEN(0), PONSEVRAN_SEAT, 0) && GIVES(WRITE(0, 0, 0, 7), PONSEVRAN_NOTED, 0) && GIVES(ADVANCE(0, 0), PONSEVRAN_LOCKED, 0);
+}
+
+/* A second try is aborted as the first, until a Setup begins at an earlier time. */
 static int reaches_the_greatest_time(void) {
     return begins(1, PONSEVRAN_GREATEST_TIME) && REFUSES(SETUP(PONSEVRAN_GREATEST_TIME + 1), PONSEVRAN_REFUSED_OUT_OF_RANGE) &&
-           GIVES(OPEN(0), PONSEVRAN_SEAT, 0) && GIVES(WRITE(0, 0, 0, 7), PONSEVRAN_NOTED, 0) && GIVES(ADVANCE(0, 0), PONSEVRAN_LOCKED, 0) &&
-           ABORTS(ADVANCE(0, 0), PONSEVRAN_ABORTED_END_OF_TIME);
+           locks_a_write() && ABORTS(ADVANCE(0, 0), PONSEVRAN_ABORTED_END_OF_TIME) &&
+           locks_a_write() && ABORTS(ADVANCE(0, 0), PONSEVRAN_ABORTED_END_OF_TIME) &&
+           GIVES(SETUP(PONSEVRAN_GREATEST_TIME - 1), PONSEVRAN_READY, 1) && locks_a_write() &&
+           GIVES(ADVANCE(0, 0), PONSEVRAN_TIMED, PONSEVRAN_GREATEST_TIME);
+}
+
+/* With seats given, a lock held and a value stored, Setup frees the seats and clears the lock, and the value stays. */
+static int begins_anew(void) {
+    return begins_with_two(2) && stores(1, 7) && GIVES(WRITE(0, 0, 0, 8), PONSEVRAN_NOTED, 0) && GIVES(ADVANCE(0, 0), PONSEVRAN_LOCKED, 0) &&
+           GIVES(SETUP(9), PONSEVRAN_READY, 2) && GIVES(OPEN(1), PONSEVRAN_SEAT, 0) && GIVES(READ(1, 0, 0), PONSEVRAN_VALUE, 0) &&
+           GIVES(READ(1, 0, 1), PONSEVRAN_VALUE, 7) && GIVES(ADVANCE(1, 0), PONSEVRAN_TIMED, 9);
 }
 
 static int keeps_numbers_whole(void) {
@@ -167,6 +194,18 @@ static int puts_a_call_through(void) {
            GIVES(ADVANCE(0, 0), PONSEVRAN_STORED, 1) && lent.values[1] == 7 && GIVES(ADVANCE(0, 0), PONSEVRAN_DONE, 6);
 }
 
+/* Owner 0 reads what it has read before, though owner 1 has stored since, and then what it is to write itself. */
+static int reads_what_it_knows(void) {
+    return begins_with_two(1) && GIVES(READ(0, 0, 0), PONSEVRAN_VALUE, 0) && stores(0, 7) && GIVES(READ(0, 0, 0), PONSEVRAN_VALUE, 0) &&
+           GIVES(WRITE(0, 0, 0, 8), PONSEVRAN_NOTED, 0) && GIVES(READ(0, 0, 0), PONSEVRAN_VALUE, 8) && lent.values[0] == 7;
+}
+
+/* A seat that has only read back its own write has nothing to check. */
+static int counts_only_what_it_read(void) {
+    return begins_with_two(1) && GIVES(WRITE(0, 0, 0, 8), PONSEVRAN_NOTED, 0) && GIVES(READ(0, 0, 0), PONSEVRAN_VALUE, 8) &&
+           GIVES(ADVANCE(0, 0), PONSEVRAN_LOCKED, 0) && GIVES(ADVANCE(0, 0), PONSEVRAN_TIMED, 6) && GIVES(ADVANCE(0, 0), PONSEVRAN_SEALED, 6);
+}
+
 static int refuses_what_is_late(void) {
     return begins_with_two(1) && GIVES(ADVANCE(0, 0), PONSEVRAN_TIMED, 0) && REFUSES(READ(0, 0, 0), PONSEVRAN_REFUSED_WRONG_PHASE) &&
            REFUSES(WRITE(0, 0, 0, 7), PONSEVRAN_REFUSED_WRONG_PHASE) && GIVES(ADVANCE(0, 0), PONSEVRAN_SEALED, 0) &&
@@ -177,11 +216,35 @@ static int knows_whose_seat_it_is(void) {
     return begins_with_two(1) && REFUSES(ADVANCE(0, 1), PONSEVRAN_REFUSED_NOT_YOURS) && REFUSES(ADVANCE(0, 2), PONSEVRAN_REFUSED_NOT_YOURS);
 }
 
+/* With one number of the seat table changed: what seat 0 and an Open of owner 2 are told of it. */
+static int finds_damage_at(size_t place, int at_seat, int at_open) {
+    if (!begins_with_two(1))
+        return 0;
+    lent.seats[place] = PONSEVRAN_MOST_SEATS + 1;
+    return (at_seat ? REFUSES(ADVANCE(0, 0), PONSEVRAN_REFUSED_DAMAGED) : GIVES(ADVANCE(0, 0), PONSEVRAN_TIMED, 0)) &&
+           (at_open ? REFUSES(OPEN(2), PONSEVRAN_REFUSED_DAMAGED) : GIVES(OPEN(2), PONSEVRAN_SEAT, 2));
+}
+
+/* In a row: its phase, its owner, how many it has read, and a place that is not in use. */
 static int finds_damage(void) {
+    return finds_damage_at(PONSEVRAN_PLAN, 1, 1) && finds_damage_at(PONSEVRAN_PLAN + 1, 1, 1) && finds_damage_at(PONSEVRAN_PLAN + 3, 1, 0) &&
+           finds_damage_at(PONSEVRAN_PLAN + PONSEVRAN_ROW - 1, 0, 0) && finds_damage_at(0, 0, 1);
+}
+
+/* A seat that is damaged, and named by an owner that there is not or that does not hold it; an owner at its limit, with no seat left. */
+static int tells_the_lowest(void) {
     if (!begins_with_two(1))
         return 0;
     lent.seats[PONSEVRAN_PLAN] = UINT64_MAX;
-    return REFUSES(ADVANCE(0, 0), PONSEVRAN_REFUSED_DAMAGED);
+    if (!REFUSES(ADVANCE(PONSEVRAN_OWNERS, 0), PONSEVRAN_REFUSED_OUT_OF_RANGE) || !REFUSES(ADVANCE(1, 0), PONSEVRAN_REFUSED_DAMAGED))
+        return 0;
+    plan[0] = PONSEVRAN_MOST_SEATS;
+    if (!GIVES(SETUP(0), PONSEVRAN_READY, 1))
+        return 0;
+    for (uint64_t seat = 0; seat < PONSEVRAN_MOST_SEATS; seat++)
+        if (!GIVES(OPEN(0), PONSEVRAN_SEAT, seat))
+            return 0;
+    return REFUSES(OPEN(0), PONSEVRAN_REFUSED_AT_LIMIT);
 }
 
 /* Owner 1's lock keeps owner 0 from reading the record, and from locking it. The abort clears owner 0's own lock and frees its seat alone. */
@@ -234,15 +297,20 @@ static const struct sentence SENTENCES[] = {
     {"owners are below PONSEVRAN_OWNERS", knows_the_owners},
     {"there are PONSEVRAN_MOST_SEATS seats", gives_every_seat},
     {"an owner never holds more seats than its limit", keeps_to_the_limit},
+    {"below its share an owner always gets a seat", keeps_the_shares},
     {"a share above its limit, a limit above the seats there are, and shares above them together are refused", refuses_bad_plans},
     {"a seat reads PONSEVRAN_MOST_READS records", reads_the_most},
     {"a seat writes PONSEVRAN_MOST_WRITES records", writes_the_most},
-    {"times are 0 to PONSEVRAN_GREATEST_TIME", reaches_the_greatest_time},
+    {"times are 0 to PONSEVRAN_GREATEST_TIME, and only a new Setup gives more", reaches_the_greatest_time},
+    {"a later Setup begins anew, and values stay", begins_anew},
     {"numbers have 64 bits", keeps_numbers_whole},
     {"an alarm call is locked, timed, checked, sealed, stored and done", puts_a_call_through},
+    {"Read gives what is noted, or what was read before, or the record's value", reads_what_it_knows},
+    {"a record counts as read only where Read gave its own value", counts_only_what_it_read},
     {"Read and Write end with the first Advance, Abandon once it is sealed", refuses_what_is_late},
     {"a seat that is free or another owner's is refused", knows_whose_seat_it_is},
-    {"a damaged row is refused", finds_damage},
+    {"a damaged row is refused; Open looks at the plan, and at whose the seats are", finds_damage},
+    {"where several reasons are true, the lowest is told", tells_the_lowest},
     {"a locked record is not read anew nor locked again, and an abort clears its locks and frees its seat", keeps_others_off_a_lock},
     {"a record stored over since it was read aborts", aborts_what_was_overwritten},
     {"a record read and locked by another aborts", aborts_what_another_has_locked},

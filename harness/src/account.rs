@@ -9,6 +9,7 @@ use crate::observer::Observer;
 use crate::page::Page;
 use crate::player::{Lost, unwritten};
 use crate::tape::TapeCall;
+use crate::text_line::shown;
 use crate::words;
 
 pub struct Account<W> {
@@ -102,7 +103,8 @@ impl<W: Write> Account<W> {
     }
 }
 
-/// A line that does not answer its call. The proved program gives none such.
+/// A line that does not answer its call. The proved program gives none such, and what another
+/// program tells may be anything.
 fn odd(line: &str) -> Lost {
-    Lost::Because(format!("this is no line of the monitor's, or not here: '{line}'"))
+    Lost::Because(format!("this is no line of the monitor's, or not here: '{}'", shown(line)))
 }

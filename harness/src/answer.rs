@@ -19,6 +19,23 @@ pub enum Answer {
     Aborted(u64),
 }
 
+/// The answers in the order in which the boundary numbers their spellings.
+pub const ANSWERS: [fn(u64) -> Answer; 13] = [
+    Answer::Ready,
+    Answer::Seat,
+    Answer::Value,
+    Answer::Noted,
+    Answer::Locked,
+    Answer::Timed,
+    Answer::Checked,
+    Answer::Sealed,
+    Answer::Stored,
+    Answer::Done,
+    Answer::Dropped,
+    Answer::Refused,
+    Answer::Aborted,
+];
+
 impl Answer {
     pub fn spelling(self) -> &'static str {
         self.parts().0
@@ -30,22 +47,7 @@ impl Answer {
 
     /// The answer with this word and number, as a line of the monitor has them.
     pub fn spelled(spelling: &str, number: u64) -> Option<Answer> {
-        let answers = [
-            Answer::Ready,
-            Answer::Seat,
-            Answer::Value,
-            Answer::Noted,
-            Answer::Locked,
-            Answer::Timed,
-            Answer::Checked,
-            Answer::Sealed,
-            Answer::Stored,
-            Answer::Done,
-            Answer::Dropped,
-            Answer::Refused,
-            Answer::Aborted,
-        ];
-        let mut numbered = answers.iter().map(|answer| answer(number));
+        let mut numbered = ANSWERS.iter().map(|answer| answer(number));
         numbered.find(|answer| answer.spelling() == spelling)
     }
 

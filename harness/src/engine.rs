@@ -1,6 +1,6 @@
 //! The proved engine, called through its C boundary on flat tables.
 
-use crate::answer::Answer;
+use crate::answer::{ANSWERS, Answer};
 use crate::call::Call;
 use crate::flat::Flat;
 use crate::plan::{OWNERS, Plan};
@@ -96,23 +96,6 @@ fn flat_plan(plan: &Plan) -> [u64; 2 * OWNERS] {
     numbers[OWNERS..].copy_from_slice(&plan.limits);
     numbers
 }
-
-/// The answers in the order in which the boundary numbers their spellings.
-pub const ANSWERS: [fn(u64) -> Answer; 13] = [
-    Answer::Ready,
-    Answer::Seat,
-    Answer::Value,
-    Answer::Noted,
-    Answer::Locked,
-    Answer::Timed,
-    Answer::Checked,
-    Answer::Sealed,
-    Answer::Stored,
-    Answer::Done,
-    Answer::Dropped,
-    Answer::Refused,
-    Answer::Aborted,
-];
 
 /// The answer of a spelling's number, and the number that it carries.
 fn told(spelling: u64, number: u64) -> Answer {

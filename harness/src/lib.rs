@@ -7,7 +7,7 @@
 //! Beside it stands the front of the proved program: `run`, `show` and `typed` play tapes by that
 //! program, through `player`, and know of it no more than its lines.
 
-pub mod account;
+mod account;
 mod advance;
 pub mod answer;
 pub mod answer_counts;
@@ -46,6 +46,6 @@ pub mod stored;
 pub mod tables;
 pub mod tape;
 pub mod text;
-pub mod text_line;
+mod text_line;
 pub mod typed;
 pub mod words;

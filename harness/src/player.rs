@@ -110,9 +110,9 @@ impl Player {
         }
     }
 
-    /// Whether the next line has to be waited for.
+    /// Whether the next line has to be waited for: a half of it may have come.
     pub fn is_quiet(&self) -> bool {
-        self.lines.buffer().is_empty()
+        !self.lines.buffer().contains(&b'\n')
     }
 
     /// What came of the tape, once the monitor has ended too.

@@ -139,3 +139,19 @@ fn an_output_that_is_full() {
         fails(told, &["tape: standard output: there is no room left"]);
     }
 }
+
+/// A device that never ends, by its name and as the input.
+#[test]
+fn a_file_that_does_not_end() {
+    let told_of =
+        |name: &str| format!("tape: {name}: longer than 256 MiB: give its bytes to monitor itself");
+    let zeros = || File::open("/dev/zero").expect("a device that never ends");
+    let mut from_input = tape(&["encode"]);
+    from_input.stdin(zeros());
+    let said = |mut command: Command| command.output().expect("it runs");
+    let (by_name, from_input) = (said(tape(&["encode", "/dev/zero"])), said(from_input));
+    for (output, name) in [(by_name, "/dev/zero"), (from_input, "standard input")] {
+        assert_eq!(String::from_utf8_lossy(&output.stderr), told_of(name) + "\n");
+        assert_eq!(output.status.code(), Some(2));
+    }
+}

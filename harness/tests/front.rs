@@ -211,6 +211,27 @@ fn a_call_is_shown_whole_with_one_blank_between_its_words() {
     }
 }
 
+/// From line 10000 and call 100 on, a place is wider than its heading, and every row leaves it room.
+#[test]
+fn places_have_a_column_as_wide_as_the_last() {
+    let text = "\n".repeat(9_998) + "open 0\nopen 0\n";
+    let tape = text::to_tape(&"open 0\n".repeat(100)).expect("a good tape");
+    let of_text = [" line  no  call  ", " 9999   1  open 0  ", "10000   2  open 0  "];
+    let of_tape = [" no  call  ", " 99  open 0  ", "100  open 0  "];
+    for (input, expected) in [(text.as_bytes(), of_text), (&tape, of_tape)] {
+        let shown = told(front(&["show"]), input).output;
+        for row in expected {
+            assert!(shown.lines().any(|line| line.starts_with(row)), "{row}");
+        }
+    }
+}
+
+#[test]
+fn without_a_setup_there_are_no_records() {
+    let shown = told(front(&["show"]), b"open 0\n").output;
+    assert!(shown.ends_with("records         there are none\n"), "{shown}");
+}
+
 #[test]
 fn long_tapes_come_through_whole() {
     let tape = ORDINARY.tape(200_000);
@@ -258,6 +279,19 @@ fn a_reader_that_goes_away() {
             .expect("text");
         let gone = "tape: the lines can't be written: nobody reads on\n";
         assert_eq!((errors.as_str(), status.code()), (gone, Some(2)), "{command}");
+    }
+}
+
+#[test]
+fn an_input_that_cannot_be_read_is_told() {
+    let folder = env!("CARGO_TARGET_TMPDIR");
+    for command in ["run", "show", "try"] {
+        let mut unread = Command::new("sh");
+        unread.args(["-c", "exec \"$0\" \"$1\" < \"$2\"", TAPE, command, folder]);
+        unread.env("MONITOR", monitor());
+        let Told { errors, status, .. } = told(unread, b"");
+        assert!(errors.starts_with("tape: standard input: "), "{command}: {errors}");
+        assert_eq!((errors.lines().count(), status), (1, Some(2)), "{command}");
     }
 }
 
@@ -376,8 +410,10 @@ fn the_examples_of_the_help_can_be_typed() {
         examples.iter().map(|call| call.split(' ').next()).collect::<Vec<_>>(),
         names.map(Some)
     );
-    let tried =
-        told(front(&["try"]), format!("help\n{}\nquit\nno more", examples.join("\n")).as_bytes());
+    let tried = told(
+        front(&["try"]),
+        format!("help # all\n{}\nquit # now\nno more", examples.join("\n")).as_bytes(),
+    );
     assert!(tried.output.contains(typed::HELP) && !tried.output.contains("not sent"));
     let told = totals(&tried.output);
     assert_eq!((told["refused"].as_str(), told["dropped"].as_str()), ("0", "1"));

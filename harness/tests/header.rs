@@ -8,9 +8,9 @@ use std::fs;
 use std::path::{Path, PathBuf};
 use std::process::{Command, Stdio};
 
-use second::answer::{Abort, Answer, Refusal};
+use second::answer::{ANSWERS, Abort, Answer, Refusal};
 use second::clock::Widths;
-use second::engine::{ANSWERS, DECLARED, Declared};
+use second::engine::{DECLARED, Declared};
 use second::flat::{MOST_RECORDS, ROW, SEAT_TABLE};
 use second::meaning;
 use second::outside::{self, PATIENCE};

@@ -4,7 +4,7 @@
 mod called;
 
 use std::fs;
-use std::io::{BufRead, BufReader, Read};
+use std::io::{BufRead, BufReader};
 use std::path::{Path, PathBuf};
 use std::process::{Command, Stdio};
 
@@ -130,7 +130,9 @@ fn lines_that_break_off() {
     let last = "printf '1 ready 1\\n2 seat 0\\nend 2'";
     both_say_of("half-end", last, break_off);
     both_say_of("no-end", "printf '1 ready 1\\n2 seat 0\\n'", break_off);
-    both_say_of("blank", "printf '1 ready 1\\n2 seat 0\\nend 2\\n\\n' | head -c 19", break_off);
+    // `show` reads no further than the last line.
+    let blank = script("blank", "printf '1 ready 1\\n2 seat 0\\nend 2\\n\\n'");
+    assert_eq!(told(tape(&blank, &["run"]), TEXT).errors, format!("tape: {break_off}\n"));
 }
 
 /// `run` passes on what it is told, whatever it is; `show` has no words for it.
@@ -141,6 +143,7 @@ fn lines_that_answer_another_call_have_no_words() {
         "1 value 0",
         "1 aborted 21",
         "1 refused 12",
+        "0 ready 1",
         "2 ready 1",
         "1 ready x",
         "1 ready",
@@ -157,6 +160,9 @@ fn lines_that_answer_another_call_have_no_words() {
         let odd = format!("tape: this is no line of the monitor's, or not here: '{line}'\n");
         assert_eq!((shown.errors, shown.status), (odd, Some(2)));
     }
+    let unseen = script("unseen", "printf '1 \\033[31mready 1\\n'");
+    let shown = told(tape(&unseen, &["show"]), TEXT).errors;
+    assert!(shown.ends_with(" '1 \\u{1b}[31mready 1'\n"), "{shown}");
     let more = script("more", "printf '1 ready 1\\n2 seat 0\\n3 seat 1\\nend 3\\n'");
     assert!(told(tape(&more, &["show"]), TEXT).errors.ends_with(" '3 seat 1'\n"));
     assert_eq!(told(tape(&more, &["run"]), TEXT).status, Some(0));
@@ -181,27 +187,35 @@ fn a_line_without_an_end_is_not_waited_for() {
     assert_eq!(shown.status, Some(2));
 }
 
-/// The monitor tells a line, and goes on only once that line has come through.
+/// Whether this text comes, and nothing behind it is waited for.
+fn comes(text: &str, from: impl BufRead) -> bool {
+    let mut come = Vec::new();
+    from.bytes().map_while(Result::ok).any(|byte| {
+        come.push(byte);
+        come.ends_with(text.as_bytes())
+    })
+}
+
+/// The monitor tells a line and a half, and goes on only once they have come through. `show` has no
+/// words for half a line.
 #[test]
 fn lines_are_passed_on_as_they_come() {
-    for command in ["run", "show"] {
+    for (command, text) in [("run", "1 ready 1\n2 se"), ("show", "at time 0\n")] {
         let go = folder(command).join("go");
         fs::remove_file(&go).ok();
         let wait = format!("until test -e '{}'; do sleep 0.02; done", go.display());
-        let lines = "echo '2 seat 0'; echo 'end 2'";
-        let monitor = script(command, &format!("echo '1 ready 1'; {wait}; {lines}"));
+        let (first, rest) = ("printf '1 ready 1\\n2 se'", "printf 'at 0\\nend 2\\n'");
+        let monitor = script(command, &format!("{first}; {wait}; {rest}"));
         let mut front = tape(&monitor, &[command]);
         front.stdin(Stdio::piped()).stdout(Stdio::piped());
         let mut front = outside::start(&mut front).unwrap_or_else(|error| panic!("{error}"));
         let feed = outside::bytes(TEXT);
         feed(front.stdin.take()).expect("it is fed");
         let mut output = BufReader::new(front.stdout.take().expect("its output is piped"));
-        let first = outside::within(PATIENCE, &mut front, || {
-            output.by_ref().lines().map_while(Result::ok).find(|line| line.contains("ready 1"))
-        });
+        let first = outside::within(PATIENCE, &mut front, || comes(text, &mut output));
         fs::write(&go, "").expect("the folder can be written");
         let status = outside::ended(&mut front).expect("it ends");
-        assert!(first.is_ok_and(|first| first.is_some()), "{command}");
+        assert!(first.is_ok_and(|came| came), "{command}");
         assert_eq!(status.code(), Some(0), "{command}");
     }
 }

@@ -160,10 +160,8 @@ fn tapes_named(page: &str) -> BTreeSet<&str> {
 /// Whether a page that speaks of a document, which is not in the repository, links to the page that
 /// says its rules.
 fn tells_where_documents_are(page: &str, text: &str) -> bool {
-    let speaks = ["document 01", "document 02"].iter().any(|name| {
-        let text = text.to_lowercase();
-        text.contains(name)
-    });
+    let small = text.to_lowercase();
+    let speaks = ["document 01", "document 02"].iter().any(|name| small.contains(name));
     !speaks || page == "docs/MONITOR.md" || text.contains("MONITOR.md)")
 }
 

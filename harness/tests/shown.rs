@@ -6,6 +6,7 @@ use second::answer::Answer;
 use second::colour::Colour;
 use second::line::{Ending, Line};
 use second::observer::Observer;
+use second::page::Page;
 use second::text::parse_line;
 use second::words;
 
@@ -125,17 +126,45 @@ fn a_record_that_is_0_again_is_not_told_as_changed() {
     assert_eq!(observer.open_seats().count(), 0);
 }
 
+/// A list of these items, in the totals of an account.
+fn list(items: &[&str]) -> String {
+    let mut written = Vec::new();
+    let mut page = Page::new(&mut written, Colour::Off);
+    page.list("records", items.iter().copied()).expect("memory can be written");
+    String::from_utf8(written).expect("text")
+}
+
+#[test]
+fn a_line_of_a_list_has_at_most_120_characters() {
+    let [x, y, longer] = [("x", 51), ("y", 50), ("y", 51)].map(|(of, times)| of.repeat(times));
+    let (name, below) = ("records         ", " ".repeat(16));
+    let whole = format!("{name}{x} {y} z\n");
+    assert_eq!((list(&[&x, &y, "z"]), whole.len()), (whole, 121));
+    assert_eq!(list(&[&x, &longer, "z"]), format!("{name}{x} {longer}\n{below}z\n"));
+    assert_eq!(list(&["z", &x, &longer, &y]), format!("{name}z {x}\n{below}{longer} {y}\n"));
+}
+
 #[test]
 fn colour_is_wanted_in_a_terminal_unless_it_is_refused() {
     assert_eq!(Colour::wanted(true, None), Colour::On);
     assert_eq!(Colour::wanted(true, Some(OsStr::new(""))), Colour::On);
     assert_eq!(Colour::wanted(true, Some(OsStr::new("0"))), Colour::Off);
     assert_eq!(Colour::wanted(false, None), Colour::Off);
-    for outcome in ["done 3", "aborted 21", "refused 2", "dropped 0", "stopped 33 5", "end 4"] {
+}
+
+/// Red for what was thrown out, green for what came to its end, yellow and blue for the others.
+#[test]
+fn a_word_that_says_what_came_of_a_call_has_its_colour() {
+    for (outcome, colour) in [
+        ("aborted 21", 31),
+        ("stopped 33 5", 31),
+        ("done 3", 32),
+        ("end 4", 32),
+        ("refused 2", 33),
+        ("dropped 0", 34),
+    ] {
         let (word, rest) = outcome.split_once(' ').expect("a word and a number");
-        let painted = Colour::On.paint(outcome);
-        assert!(painted.starts_with("\x1b["), "{outcome}");
-        assert!(painted.ends_with(&format!("m{word}\x1b[0m {rest}")), "{outcome}");
+        assert_eq!(Colour::On.paint(outcome), format!("\x1b[{colour}m{word}\x1b[0m {rest}"));
         assert_eq!(Colour::Off.paint(outcome), outcome);
     }
     assert_eq!(Colour::On.paint("noted 3"), "noted 3");

@@ -51,6 +51,7 @@ fn a_file_that_begins_with_hex_or_a_digit_is_hex_digits() {
 #[test]
 fn any_other_text_is_a_text_tape() {
     holds_calls(b"open 0\r\nadvance 0 0", &["open 0", "advance 0 0"]);
+    holds_calls(b"\r\nopen 0\r\n", &["open 0"]);
     holds_calls(b"# hex\nopen 0\n", &["open 0"]);
     holds_calls("# Türen\nopen 0 # früh".as_bytes(), &["open 0"]);
     holds_calls(b"# remarks\n\n   # and blank lines\n", &[]);
@@ -60,6 +61,8 @@ fn any_other_text_is_a_text_tape() {
 #[test]
 fn errors_are_told_by_the_kind_of_the_file() {
     told(b"open 0\nopen 256", "line 2: owner 256: owners are 0 to 15");
+    let calls = "the calls are setup, open, read, write, advance, abandon";
+    told(b"hexa 01", &format!("line 1: 'hexa' is not a call: {calls}"));
     told(b"01\n0x # not so", "line 2: '0x' begins with 0x: write the hex digits alone");
     let many = source(b"open 256\n".repeat(25)).expect_err("25 errors");
     assert_eq!((many.len(), &many[20][..]), (21, "5 more errors"));
@@ -100,6 +103,7 @@ fn a_file_that_is_no_tape_is_told_what_it_begins_with() {
     no_tape(b"\x89PNG\r\n\x1a\n\0\0\0\rIHDR", "89 50 4E 47");
     no_tape(b"\x7fELF\x02\x01\x01", "7F 45 4C 46");
     no_tape(b"%PDF-1.4\n\xe2\xe3 \x03", "25 50 44 46");
+    no_tape(b"\xe9\0\xe9\0", "E9 00 E9 00");
     no_tape(&[2, 0], "02 00");
     no_tape(&[0, 0, 2, 1, 0], "00 00 02 01");
     no_tape(&[0], "00");
@@ -127,6 +131,8 @@ fn utf_16_is_told_with_and_without_its_mark() {
         told(&utf_16(text, u16::to_le_bytes), what);
         told(&utf_16(text, u16::to_be_bytes), what);
     }
+    // One zero byte does not make a text UTF-16.
+    told(b"o\0pen 0", "line 1: the character \\0 can't be seen: take it out");
 }
 
 #[test]

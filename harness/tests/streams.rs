@@ -1,19 +1,22 @@
 //! The proved monitor program at its streams: pieces, cuts, an input that fails, an output that is
 //! closed or full, a big tape.
 
+mod monitored;
+
 use std::fs::{self, File};
 use std::io::{Read, Write};
 use std::os::fd::OwnedFd;
 use std::os::unix::net::{UnixDatagram, UnixStream};
-use std::path::{Path, PathBuf};
+use std::path::Path;
 use std::process::{ChildStdin, Command, Output, Stdio};
 use std::slice;
 use std::thread;
 use std::time::Duration;
 
+use monitored::{monitor, output};
 use second::lively;
 use second::load::ORDINARY;
-use second::outside::{self, PATIENCE, assert_second_tells, most_lines};
+use second::outside::{self, PATIENCE, assert_second_tells};
 use second::program;
 use second::random::{Random, each_seed, seeds};
 use second::stored;
@@ -21,10 +24,6 @@ use second::stored;
 /// What the program says on standard error where a read or a write fails.
 const UNREAD: &str = "monitor: the tape can't be read\n";
 const UNWRITTEN: &str = "monitor: the lines can't be written\n";
-
-fn monitor() -> PathBuf {
-    outside::monitor().unwrap_or_else(|error| panic!("{error}"))
-}
 
 fn told(tape: &[u8]) -> String {
     outside::told(&monitor(), tape).unwrap_or_else(|error| panic!("{error}"))
@@ -39,8 +38,7 @@ fn tape_x() -> Vec<u8> {
 fn output_from(input: impl Into<Stdio>, tape: &[u8]) -> Output {
     let mut command = Command::new(monitor());
     command.stdin(input).stdout(Stdio::piped()).stderr(Stdio::piped());
-    let output = outside::output(command, PATIENCE, most_lines(tape), |_| Ok(()));
-    output.unwrap_or_else(|error| panic!("{error}"))
+    output(command, tape, |_| Ok(()))
 }
 
 /// The lines of a tape that comes in random pieces, with pauses between some of them.
@@ -85,13 +83,12 @@ fn a_tape_in_more_than_100_000_parts() {
     ours.set_write_timeout(Some(PATIENCE)).expect("a patience");
     let mut command = Command::new(monitor());
     command.stdin(OwnedFd::from(theirs)).stdout(Stdio::piped());
-    let output = outside::output(command, PATIENCE, most_lines(&tape), |_| {
+    let output = output(command, &tape, |_| {
         for byte in &tape {
             ours.send(slice::from_ref(byte))?;
         }
         ours.send(&[]).map(drop)
     });
-    let output = output.unwrap_or_else(|error| panic!("{error}"));
     println!("{} parts", tape.len());
     assert_second_tells(&tape, &String::from_utf8_lossy(&output.stdout));
     assert!(output.status.success());
@@ -180,9 +177,7 @@ fn says_unwritten(command: impl Fn() -> Command) {
     for tape in tapes_to_write() {
         let mut command = command();
         command.stdin(Stdio::piped()).stderr(Stdio::piped());
-        let feed = outside::bytes(&tape);
-        let output = outside::output(command, PATIENCE, most_lines(&tape), feed);
-        let output = output.unwrap_or_else(|error| panic!("{error}"));
+        let output = output(command, &tape, outside::bytes(&tape));
         assert_eq!(String::from_utf8_lossy(&output.stderr), UNWRITTEN, "{} bytes", tape.len());
     }
 }
@@ -207,8 +202,7 @@ fn an_output_that_fills_up() {
     command.args(["-c", "trap '' XFSZ; ulimit -f 99; exec \"$0\""]).arg(monitor());
     command.stdin(Stdio::piped()).stderr(Stdio::piped());
     command.stdout(File::create(&path).expect("the folder can be written"));
-    let output = outside::output(command, PATIENCE, most_lines(&tape), outside::bytes(&tape));
-    let output = output.unwrap_or_else(|error| panic!("{error}"));
+    let output = output(command, &tape, outside::bytes(&tape));
     let (whole, part) = (program::play_bytes(&tape), fs::read(&path));
     let (whole, part) = (whole.expect("memory can be written"), part.expect("the file is there"));
     assert!(part.len() >= 99 * 512 && part.len() < whole.len(), "{} bytes", part.len());
@@ -239,8 +233,7 @@ fn no_input_at_all() {
     let mut command = Command::new("sh");
     command.args(["-c", "exec \"$0\" <&-"]).arg(monitor());
     command.stdout(Stdio::piped()).stderr(Stdio::piped());
-    let output = outside::output(command, PATIENCE, most_lines(&[]), |_| Ok(()));
-    let output = output.unwrap_or_else(|error| panic!("{error}"));
+    let output = output(command, &[], |_| Ok(()));
     assert!(output.stdout.is_empty());
     assert_eq!(String::from_utf8_lossy(&output.stderr), UNREAD);
 }

@@ -129,6 +129,7 @@ fn a_word_that_is_no_number_is_told_with_the_reason() {
     told("advance 0 1e3", "seat '1e3' is not a number: seats are 0 to 63");
     told("advance 0 -1", "seat '-1' has a minus: seats are 0 to 63");
     told("advance 0 −1", "seat '−1' has a minus: seats are 0 to 63");
+    told("advance 0 –1", "seat '–1' has a minus: seats are 0 to 63");
     told("advance 0 -", "seat '-' is not a number: seats are 0 to 63");
     let plus = "has a plus, and numbers are written without one";
     told("advance +0 1", &format!("owner '+0' {plus}: owners are 0 to 15"));

@@ -1,48 +1,46 @@
 //! The proved monitor program where the system makes it wait: calls that a signal interrupts, an
 //! input and an output that are not ready. No line is lost. And what it says to its arguments.
 
+mod monitored;
+
 use std::io::{self, Read, Write};
 use std::os::fd::OwnedFd;
 use std::os::unix::net::UnixStream;
-use std::path::{Path, PathBuf};
 use std::process::{Command, Output, Stdio};
 use std::thread;
 use std::time::Duration;
 
+use monitored::{monitor, output};
 use second::load::ORDINARY;
-use second::outside::{self, PATIENCE, assert_second_tells, most_lines};
+use second::outside::{self, PATIENCE, assert_second_tells};
 use second::stored;
 
-fn monitor() -> Command {
-    Command::new(outside::monitor().unwrap_or_else(|error| panic!("{error}")))
-}
+/// What the library says at the end of a program whose reads and writes it has failed. Without it
+/// nothing was tried: a program may well be built so that no library comes before it.
+const FAILED: &str = "interrupted: reads and writes have failed\n";
 
-fn output(command: Command, tape: &[u8], feed: impl FnOnce() -> io::Result<()> + Send) -> Output {
-    let output = outside::output(command, PATIENCE, most_lines(tape), |_| feed());
-    output.unwrap_or_else(|error| panic!("{error}"))
-}
+/// The library that fails reads and writes, by its name in its folder: the system takes a blank in
+/// a longer path for the end of that path.
+const LIBRARY: &str = "./interrupted.so";
+const FOLDER: &str = env!("CARGO_TARGET_TMPDIR");
 
-/// The library that fails reads and writes, built from its source.
-fn interrupted() -> PathBuf {
-    let library = Path::new(env!("CARGO_TARGET_TMPDIR")).join("interrupted.so");
+fn build_library() {
     let mut compiler = Command::new("gcc");
-    compiler.args(["-std=gnu11", "-Wall", "-Wextra", "-Werror", "-shared", "-fPIC", "-o"]);
-    compiler.arg(&library).arg(stored::file("harness/c/interrupted.c"));
+    compiler.args(["-std=gnu11", "-Wall", "-Wextra", "-Werror", "-shared", "-fPIC", "-o", LIBRARY]);
+    compiler.arg(stored::file("harness/c/interrupted.c")).current_dir(FOLDER);
     assert!(compiler.status().expect("gcc is there").success());
-    library
 }
 
 #[test]
 fn interrupted_calls_are_made_again() {
-    let library = interrupted();
+    build_library();
     for tape in [vec![], vec![1], ORDINARY.tape(100), ORDINARY.tape(100_000)] {
-        let mut command = monitor();
-        command.env("LD_PRELOAD", &library);
+        let mut command = Command::new(monitor());
+        command.env("LD_PRELOAD", LIBRARY).current_dir(FOLDER);
         command.stdin(Stdio::piped()).stdout(Stdio::piped()).stderr(Stdio::piped());
-        let fed = outside::output(command, PATIENCE, most_lines(&tape), outside::bytes(&tape));
-        let output = fed.unwrap_or_else(|error| panic!("{error}"));
+        let output = output(command, &tape, outside::bytes(&tape));
         assert_second_tells(&tape, &String::from_utf8_lossy(&output.stdout));
-        assert!(output.stderr.is_empty(), "{} bytes", tape.len());
+        assert_eq!(String::from_utf8_lossy(&output.stderr), FAILED, "{} bytes", tape.len());
     }
 }
 
@@ -63,9 +61,9 @@ fn pause() {
 fn an_input_that_is_not_ready_yet() {
     let tape = ORDINARY.tape(2_000);
     let (mut ours, theirs) = hasty_socket();
-    let mut command = monitor();
+    let mut command = Command::new(monitor());
     command.stdin(OwnedFd::from(theirs)).stdout(Stdio::piped()).stderr(Stdio::piped());
-    let output = output(command, &tape, || {
+    let output = output(command, &tape, |_| {
         for part in tape.chunks(1_000) {
             pause();
             ours.write_all(part)?;
@@ -93,11 +91,10 @@ fn read_slowly(mut from: impl Read) -> io::Result<Vec<u8>> {
 fn an_output_that_is_not_ready_yet() {
     let tape = ORDINARY.tape(100_000);
     let (ours, theirs) = hasty_socket();
-    let mut command = monitor();
+    let mut command = Command::new(monitor());
     command.stdin(Stdio::piped()).stdout(OwnedFd::from(theirs)).stderr(Stdio::piped());
     let reader = thread::spawn(move || read_slowly(ours));
-    let fed = outside::output(command, PATIENCE, most_lines(&tape), outside::bytes(&tape));
-    let output = fed.unwrap_or_else(|error| panic!("{error}"));
+    let output = output(command, &tape, outside::bytes(&tape));
     let lines = reader.join().expect("the reader ends").expect("the lines come");
     assert_second_tells(&tape, &String::from_utf8_lossy(&lines));
     assert!(output.stderr.is_empty());
@@ -105,9 +102,9 @@ fn an_output_that_is_not_ready_yet() {
 
 /// What the program tells and says to these arguments.
 fn answered(arguments: &[&str]) -> (String, String) {
-    let mut command = monitor();
+    let mut command = Command::new(monitor());
     command.args(arguments).stdin(Stdio::null()).stdout(Stdio::piped()).stderr(Stdio::piped());
-    let Output { stdout, stderr, .. } = output(command, &[0; 100], || Ok(()));
+    let Output { stdout, stderr, .. } = output(command, &[0; 100], |_| Ok(()));
     let text = |bytes| String::from_utf8(bytes).expect("lines are text");
     (text(stdout), text(stderr))
 }

@@ -3,7 +3,7 @@
 
 use std::env;
 use std::ffi::{OsStr, OsString};
-use std::fs;
+use std::fs::File;
 use std::io::{self, BufWriter, IsTerminal, Read, Write};
 use std::process::ExitCode;
 use std::sync::atomic::{AtomicBool, Ordering};
@@ -28,6 +28,9 @@ FILE holds a tape as text, as hex digits or as bytes. Without it, or with -, sta
 The monitor is the program 'monitor' beside this one, or the one that MONITOR names.
 The exit status is 0; 1 where the tape has a fault; 2 where nothing was done or output was lost.
 ";
+
+/// The most bytes of a file. The monitor itself takes a tape of any length.
+const MOST_BYTES: u64 = 256 << 20;
 
 /// What a command comes to, or one message to each error.
 type Outcome = Result<Ending, Vec<String>>;
@@ -123,17 +126,21 @@ fn read(file: Option<&OsStr>) -> Result<Source, Vec<String>> {
         return Err(one("the name of the file is empty".to_string()));
     }
     let (name, bytes) = match file.filter(|&file| file != "-") {
-        Some(file) => (file.display().to_string(), fs::read(file)),
-        None => ("standard input".to_string(), read_input()),
+        Some(file) => (file.display().to_string(), File::open(file).and_then(read_from)),
+        None => ("standard input".to_string(), read_from(io::stdin())),
     };
     let named = |error: String| format!("{name}: {error}");
     let bytes = bytes.map_err(|error| one(named(plain(&error))))?;
     source::source(bytes).map_err(|errors| errors.into_iter().map(named).collect())
 }
 
-fn read_input() -> io::Result<Vec<u8>> {
+/// All bytes of a file. A device never ends, so there is an end to what is read.
+fn read_from(input: impl Read) -> io::Result<Vec<u8>> {
     let mut bytes = Vec::new();
-    io::stdin().read_to_end(&mut bytes)?;
+    input.take(MOST_BYTES + 1).read_to_end(&mut bytes)?;
+    if bytes.len() as u64 > MOST_BYTES {
+        return Err(io::Error::other("longer than 256 MiB: give its bytes to monitor itself"));
+    }
     Ok(bytes)
 }
 
