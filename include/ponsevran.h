@@ -104,7 +104,7 @@ enum ponsevran_refusal {
 enum ponsevran_abort {
     PONSEVRAN_ABORTED_LOCK_MET = 21,          /* Another seat has locked a record that this one is to write. */
     PONSEVRAN_ABORTED_OVERWRITTEN = 22,       /* A record was stored over since this seat read it, or its write time was moved on. */
-    PONSEVRAN_ABORTED_LOCKED_BY_ANOTHER = 23, /* Another seat has locked a record that this one read, and may write it before this one's time. */
+    PONSEVRAN_ABORTED_LOCKED_BY_ANOTHER = 23, /* Another seat has locked a record that this one read, and no read of it is later than this one's time. */
     PONSEVRAN_ABORTED_END_OF_TIME = 24        /* No time is left above the last read of a record that this seat is to write. Only a new Setup gives some. */
 };
 
