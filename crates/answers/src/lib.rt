@@ -1,4 +1,6 @@
 // The document's word and number of every answer, for lines of text and for hosts.
+#![tactic(auto)]
+
 ghost use Rattle.std.specs.Prelude.{◌≡◌};
 ghost use Rattle.answers.specs.Promises.{KindIs, NumberIs, SpelledIs};
 

@@ -1,4 +1,6 @@
 // The calls for hosts in C and Rust, on slices and numbers. Each returns the number of the answer's word and puts the number that it carries into `number`.
+#![tactic(auto)]
+
 ghost use Rattle.rules.specs.Lent.{lent, left_tables};
 ghost use Rattle.rules.specs.Plan.{setup, open_seat};
 ghost use Rattle.rules.specs.Work.{read, write};

@@ -1,4 +1,6 @@
 // Advance and Abandon: a commit, step by step, and its end before that.
+#![tactic(auto)]
+
 ghost use Rattle.std.specs.Prelude.{◌≡◌, ℕ, ◌≤◌, length};
 ghost use Rattle.clock.specs.Word.{top, is_locked, write_time, read_time, fresh, extended};
 ghost use Rattle.rules.specs.Layout.{most_reads, most_writes, row, time as time_of};

@@ -1,4 +1,6 @@
 // A tape that comes in parts: where it stands between two of them, and what each prints.
+#![tactic(auto)]
+
 ghost use Rattle.std.specs.Prelude.{◌≡◌, false};
 ghost use Rattle.rules.specs.Lent.{lent_now, lent, left_tables};
 ghost use Rattle.tape.specs.Inner.{state_of};

@@ -1,4 +1,6 @@
 // A tape's bytes to calls: where a call's body begins and ends, and which call it is.
+#![tactic(auto)]
+
 ghost use Rattle.std.specs.Prelude.{◌≡◌, ◌+◌, ◌≤◌, length};
 ghost use Rattle.frames.specs.Decode.{be16 as be16_of, be32 as be32_of, be64 as be64_of, byte_span, two_span, four_span, IsBelow, by_kind, sized};
 ghost use Rattle.frames.specs.Decode.{setup_size, open_size, read_size, write_size, seat_size};

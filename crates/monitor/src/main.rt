@@ -1,4 +1,6 @@
 // Runs the tape on standard input, of any length, and prints its lines. The buffers are fixed, so memory does not grow with the tape.
+#![tactic(auto)]
+
 ghost use Rattle.std.specs.Prelude.{◌≡◌, ◌≤◌, ◌<◌, length};
 ghost use Rattle.rules.specs.Lent.{lent_now, lent, left_tables};
 ghost use Rattle.monitor.specs.Program.{output_length, Buffers, Fetched, Asked, Pumped, Ended};

@@ -1,4 +1,6 @@
 // Setup and Open: the plan of shares and limits, the seats held under it, and the seat that is given.
+#![tactic(auto)]
+
 ghost use Rattle.std.specs.Prelude.{◌≡◌, List, ℕ, ◌+◌, ◌<◌, ◌≤◌, get_or};
 ghost use Rattle.rules.specs.Tests.{any};
 ghost use Rattle.rules.specs.Layout.{owners, seat_count, plan_width, row, phase as phase_of, share as share_of};

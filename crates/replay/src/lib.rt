@@ -1,4 +1,6 @@
 // `tape::run` for the tests, under a name that C knows; hosts get it with a later request.
+#![tactic(auto)]
+
 ghost use Rattle.tape.specs.Promises.{Written};
 
 #[unsafe(no_mangle)]

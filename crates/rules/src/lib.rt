@@ -1,4 +1,5 @@
 // Document 01 as definitions, in specs/. The code here is the two types that calls answer and decide with.
+#![tactic(auto)]
 
 // What a caller is told: one case for each word of the document, with its number.
 #[derive(Drop)]

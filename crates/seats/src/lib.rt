@@ -1,4 +1,6 @@
 // What the calls share: places of a table, a seat's row, and the refusals of a call that names a seat.
+#![tactic(auto)]
+
 ghost use Rattle.std.specs.Prelude.{◌≡◌, List, ℕ, ◌+◌, ◌*◌, min, ◌≤◌, eqb, get_or};
 ghost use Rattle.rules.specs.Tests.{any, first as first_of};
 ghost use Rattle.rules.specs.Layout.{most_reads, most_writes, row_width, row_at};
@@ -13,7 +15,7 @@ pub mod layout;
 use layout::*;
 
 // The first six numbers of a row.
-#[derive(Drop)]
+#[derive(Clone, Copy)]
 pub struct Head {
     pub phase: u64,
     pub owner: u64,

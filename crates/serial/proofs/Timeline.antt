@@ -43,6 +43,7 @@ find item (w ∷ ws) = go (ℕ_discrete w.item item) (find item ws)
 
 pub distinct_same : (ws : List WriteEntry) (v w : WriteEntry) → Distinct ws → In v ws → In w ws → v.item ≡ w.item → v ≡ w
 unfolding Distinct
+distinct_same [] v w d i _ e = elim i [ ]
 distinct_same (z ∷ ws) v w d (here p) (here q) e = p ∙ sym q
 distinct_same (z ∷ ws) v w d (here p) (there j) e = absurd (d.0 w j (cc))
 distinct_same (z ∷ ws) v w d (there i) (here q) e = absurd (d.0 v i (cc))
@@ -65,6 +66,7 @@ written_absent (w ∷ ws) item v n = rw (ne_eqb w.item item (n w (here refl))) (
 
 pub written-named : (ws : List WriteEntry) (w : WriteEntry) (item v : ℕ) → Distinct ws → In w ws → w.item ≡ item → written ws item v ≡ applied w v
 unfolding written Distinct
+written-named [] w item v d i q = elim i [ ]
 written-named (z ∷ ws) w item v d (here p) q =
     rw (eq-eqb z.item item (cc)) (written_absent ws item (applied z v) (λ y i e. d.0 y i (cc)) ∙ ap (λ (y : WriteEntry). applied y v) (sym p))
 written-named (z ∷ ws) w item v d (there i) q =

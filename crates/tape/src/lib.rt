@@ -1,4 +1,6 @@
 // Tapes: a run over a part of a tape, turn by turn, and the whole.
+#![tactic(auto)]
+
 ghost use Rattle.std.specs.Prelude.{◌≡◌, ◌-◌, length, drop};
 ghost use Rattle.std.proofs.Math.Seq.{paste};
 ghost use Rattle.rules.specs.Lent.{lent, left_tables};

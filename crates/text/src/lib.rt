@@ -1,4 +1,6 @@
 // Lines of text into a lent buffer: a decimal number has no leading zero, and a line that does not fit whole is not written.
+#![tactic(auto)]
+
 ghost use Rattle.std.specs.Prelude.{◌≡◌, ◌+◌, ◌≤◌, length, take};
 ghost use Rattle.std.proofs.lemmas.List.Edits.{sets};
 ghost use Rattle.text.specs.Text.{most_letters, digits, line, last_line, Appended};

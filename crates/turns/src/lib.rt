@@ -1,4 +1,6 @@
 // One turn at a tape: a call's bytes to its answer to its line.
+#![tactic(auto)]
+
 ghost use Rattle.std.specs.Prelude.{◌≡◌, length, take, drop};
 ghost use Rattle.text.specs.Text.{Appended};
 ghost use Rattle.rules.specs.Layout.{plan_width};

@@ -1,4 +1,6 @@
 // Read and Write: what a seat notes while it works.
+#![tactic(auto)]
+
 ghost use Rattle.std.specs.Prelude.{◌≡◌, ◌-◌, ◌≤◌, length};
 ghost use Rattle.rules.specs.Tests.{first as first_of};
 ghost use Rattle.rules.specs.Layout.{most_writes, row, write_width, reads as reads_of};

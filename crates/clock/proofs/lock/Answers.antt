@@ -1,0 +1,13 @@
+-- `clock::lock` meets its contract. Assumes nothing.
+use Rattle.clock.specs.Laws.{distance_small, write_time_small}
+use Rattle.clock.specs.Word.{with_lock}
+use native.Mathlib.Omega.{arith}
+use borrow.Author.Rules.{rules}
+use Rattle.clock.proofs.lock.Goals as goal
+
+pub join-requires : goal.join-requires
+join-requires c = omega (arith, distance_small c.args.w, write_time_small c.args.w)
+
+pub returns : goal.returns
+unfolding with_lock
+returns c = cc

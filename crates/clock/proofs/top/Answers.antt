@@ -1,0 +1,9 @@
+-- `clock::top` meets its contract. Assumes nothing.
+use mathlib.Core.Path.{refl}
+use Rattle.clock.specs.Word.{top, time_span}
+use borrow.Author.Rules.{rules}
+use Rattle.clock.proofs.top.Goals as goal
+
+pub returns : goal.returns
+unfolding top time_span
+returns c = refl

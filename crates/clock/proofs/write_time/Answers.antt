@@ -1,0 +1,8 @@
+-- `clock::write_time` meets its contract. Assumes nothing.
+use mathlib.Core.Path.{refl}
+use Rattle.clock.specs.Word.{write_time, time_span}
+use Rattle.clock.proofs.write_time.Goals as goal
+
+pub returns : goal.returns
+unfolding write_time time_span
+returns c = refl

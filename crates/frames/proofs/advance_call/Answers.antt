@@ -1,0 +1,11 @@
+-- `frames::advance_call` meets its contract. Assumes nothing.
+use borrow.Author.Tests.{eq-eqb, ne_eqb}
+use borrow.Author.Rules.{rules}
+use Rattle.frames.proofs.advance_call.Goals as goal
+
+pub returns-then-b-eq-SEAT_SIZE : goal.returns-then-b-eq-SEAT_SIZE
+returns-then-b-eq-SEAT_SIZE c =
+    simp (eq-eqb _ _ c.if-b-eq-SEAT_SIZE.true) (cc)
+
+pub returns : goal.returns
+returns c = simp (ne_eqb _ _ c.if-b-eq-SEAT_SIZE.false)

@@ -1,0 +1,59 @@
+-- `seats::admit_to_row` meets its contract. Assumes nothing.
+use Prim.Native.Nat.{ℕ}
+use mathlib.Core.Path.{◌≡◌, ◌∙◌, ap}
+use mathlib.Core.List.{List, [], ◌∷◌}
+use borrow.Author.Rules.{rules}
+use borrow.Author.Tests.{eq-eqb, le-ltb, lt-ltb, ne_eqb}
+use lib.Dec.{ltb}
+use Rattle.rules.specs.Layout.{phase}
+use Rattle.rules.specs.Tests.{one_of, first_of}
+use mathlib.Core.Bool.{Bool, false}
+use Rattle.rules.specs.Refusals.{damaged, foreign, row_refusal}
+use Rattle.seats.specs.Heads.{head_is, admission}
+use Rattle.seats.specs.declared.Admission.TheVariants.{Ready}
+use Rattle.seats.proofs.admit_to_row.Goals as goal
+use Rattle.seats.proofs.admit_to_row.Goals.{Else-head-owner}
+
+pub is_damaged-requires : goal.is_damaged-requires
+is_damaged-requires c = head_is c.head_of-head.ensures
+
+pub returns-then-is_damaged : goal.returns-then-is_damaged
+unfolding row_refusal first_of admission
+returns-then-is_damaged c = simp (← c.is_damaged.ensures, c.if-is_damaged.true)
+
+-- A ROW IN ORDER: 4 and 5 are left
+in_order : (g : List ℕ) (records owner last : ℕ) {bad : Bool} → bad ≡ damaged g records → bad ≡ false →
+    row_refusal g records owner last ≡ first_of 4 (foreign g owner ∷ ltb last (phase g) ∷ [])
+unfolding row_refusal first_of
+in_order g records owner last is fine = simp (← is, fine)
+
+pub returns-then-head-eq-FREE : goal.returns-then-head-eq-FREE
+unfolding foreign one_of first_of admission
+returns-then-head-eq-FREE c =
+    let q = head_is c.head_of-head.ensures in
+    simp (in_order c.args.row.now c.args.records c.args.owner c.args.last c.is_damaged.ensures c.if-is_damaged.false, ← q.phase_is, eq-eqb _ _ c.if-head-eq-FREE.true)
+
+pub returns-then-head-owner : goal.returns-then-head-owner
+unfolding foreign one_of first_of admission
+returns-then-head-owner c =
+    let q = head_is c.head_of-head.ensures in
+    simp (in_order c.args.row.now c.args.records c.args.owner c.args.last c.is_damaged.ensures c.if-is_damaged.false, ← q.phase_is, ← q.owner_is, ne_eqb _ _ c.if-head-eq-FREE.false, ne_eqb _ _ c.if-head-owner.true)
+
+-- THE OWNER'S OWN ROW: 5 is left
+own : (c : Else-head-owner) → row_refusal c.args.row.now c.args.records c.args.owner c.args.last
+    ≡ first_of 5 (ltb c.args.last (phase c.args.row.now) ∷ [])
+unfolding foreign one_of first_of
+own c =
+    let q = head_is c.head_of-head.ensures in
+    in_order c.args.row.now c.args.records c.args.owner c.args.last c.is_damaged.ensures c.if-is_damaged.false ∙ simp (← q.phase_is, ← q.owner_is, ne_eqb _ _ c.if-head-eq-FREE.false, eq-eqb _ _ c.if-head-owner.false)
+
+pub returns-then-last-head : goal.returns-then-last-head
+unfolding first_of admission
+returns-then-last-head c =
+    simp (own (goal.at.returns-then-last-head c).Else-head-owner, ← (head_is c.head_of-head.ensures).phase_is, lt-ltb _ _ c.if-last-head.true)
+
+pub returns : goal.returns
+unfolding first_of admission
+returns c =
+    let e = c.head_of-head.ensures in
+    simp (own (goal.at.returns c).Else-head-owner, ← (head_is e).phase_is, le-ltb _ _ c.if-last-head.false) (ap Ready e)

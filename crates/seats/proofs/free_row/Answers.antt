@@ -1,0 +1,8 @@
+-- `seats::free_row` meets its contract. Assumes nothing.
+use borrow.Author.Rules.{rules}
+use Rattle.seats.specs.RowPart.{freed-part}
+use Rattle.seats.proofs.free_row.Goals as goal
+
+pub returns : goal.returns
+returns c =
+    freed-part _ _ c.row_from-from.ensures c.lesser-to.ensures c.fill.ensures

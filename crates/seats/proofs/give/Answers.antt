@@ -1,0 +1,13 @@
+-- `seats::give` meets its contract. Assumes nothing.
+use mathlib.Core.Path.{sym}
+use native.Mathlib.Omega.{arith}
+use borrow.Author.Rules.{rules}
+use Rattle.seats.specs.RowPart.{put_at, put_past}
+use Rattle.seats.proofs.give.Goals as goal
+
+pub returns-then-field-n : goal.returns-then-field-n
+returns-then-field-n c =
+    put_at _ _ _ _ c.row_from-from.ensures c.if-field-n.true c.store.ensures
+
+pub returns-else-field-n : goal.returns-else-field-n
+returns-else-field-n c = sym (put_past _ _ _ _ (omega arith))

@@ -1,0 +1,16 @@
+-- `seats::head_of` meets its contract. Assumes nothing.
+use borrow.Author.Rules.{rules}
+use Rattle.seats.specs.Heads.{head_of}
+use Rattle.seats.proofs.head_of.Goals as goal
+
+pub returns : goal.returns
+unfolding head_of
+returns c =
+    simp (
+      ← c.at.ensures,
+      ← c.at-2.ensures,
+      ← c.at-3.ensures,
+      ← c.at-4.ensures,
+      ← c.at-5.ensures,
+      ← c.at-6.ensures,
+    )

@@ -1,0 +1,55 @@
+-- `seats::is_bad_head` meets its contract. Assumes nothing.
+use mathlib.Core.Path.{◌≡◌}
+use mathlib.Core.Bool.{◌||◌}
+use borrow.Author.Tests.{le-leb, le-ltb, lt-leb, lt-ltb}
+use borrow.Author.Rules.{rules}
+use Rattle.rules.specs.Tests.{one_of}
+use Rattle.rules.specs.Refusals.{misplaced, late, bad_head}
+use Rattle.seats.specs.Heads.{head_row}
+use Rattle.seats.proofs.is_bad_head.Goals as goal
+use Rattle.seats.proofs.is_bad_head.Goals.{Else-head-gt-MOST_WRITES}
+
+pub returns-then-head-gt-STORING : goal.returns-then-head-gt-STORING
+unfolding bad_head head_row one_of
+returns-then-head-gt-STORING c = simp (lt-ltb _ _ c.if-head-gt-STORING.true)
+
+pub returns-then-head-ge-OWNERS : goal.returns-then-head-ge-OWNERS
+unfolding bad_head head_row one_of
+returns-then-head-ge-OWNERS c =
+    simp (le-ltb _ _ c.if-head-gt-STORING.false, le-leb _ _ c.if-head-ge-OWNERS.true)
+
+pub returns-then-head-gt-MOST_READS : goal.returns-then-head-gt-MOST_READS
+unfolding bad_head head_row one_of
+returns-then-head-gt-MOST_READS c =
+    simp (le-ltb _ _ c.if-head-gt-STORING.false, lt-leb _ _ c.if-head-ge-OWNERS.false, lt-ltb _ _ c.if-head-gt-MOST_READS.true)
+
+pub returns-then-head-gt-MOST_WRITES : goal.returns-then-head-gt-MOST_WRITES
+unfolding bad_head head_row one_of
+returns-then-head-gt-MOST_WRITES c =
+    simp (
+      le-ltb _ _ c.if-head-gt-STORING.false,
+      lt-leb _ _ c.if-head-ge-OWNERS.false,
+      le-ltb _ _ c.if-head-gt-MOST_READS.false,
+      lt-ltb _ _ c.if-head-gt-MOST_WRITES.true,
+    )
+
+-- ITS NUMBERS IN RANGE: position and time are left
+in_range : (c : Else-head-gt-MOST_WRITES) →
+    let h = c.args.head in
+    bad_head (head_row h) ≡ misplaced h.phase h.position h.reads h.writes || late h.phase h.time
+unfolding bad_head head_row one_of
+in_range c =
+    simp (
+      le-ltb _ _ c.if-head-gt-STORING.false,
+      lt-leb _ _ c.if-head-ge-OWNERS.false,
+      le-ltb _ _ c.if-head-gt-MOST_READS.false,
+      le-ltb _ _ c.if-head-gt-MOST_WRITES.false,
+    )
+
+pub returns-then-is_misplaced : goal.returns-then-is_misplaced
+returns-then-is_misplaced c =
+    simp (in_range (goal.at.returns-then-is_misplaced c).Else-head-gt-MOST_WRITES, ← c.is_misplaced.ensures, c.if-is_misplaced.true)
+
+pub returns : goal.returns
+returns c =
+    simp (in_range (goal.at.returns c).Else-head-gt-MOST_WRITES, ← c.is_misplaced.ensures, c.if-is_misplaced.false, ← c.is_late.ensures)

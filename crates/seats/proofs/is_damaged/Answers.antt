@@ -1,0 +1,62 @@
+-- `seats::is_damaged` meets its contract. Assumes nothing.
+use Prim.Native.Nat.{ℕ}
+use mathlib.Core.Path.{◌≡◌, ◌∙◌, sym}
+use mathlib.Core.Bool.{false, ◌||◌}
+use mathlib.Core.List.{List}
+use borrow.Author.Rules.{rules}
+use borrow.Author.Tests.{eq-eqb, ne_eqb}
+use Rattle.rules.specs.Tests.{one_of}
+use Rattle.rules.specs.Refusals.{bad_head, bad_entry, damaged}
+use Rattle.seats.specs.Heads.{HeadOf, bad_head_lem, head-fits}
+use Rattle.seats.specs.declared.Head.{Head}
+use Rattle.seats.proofs.is_damaged.Goals as goal
+use Rattle.seats.proofs.is_damaged.Goals.{After-is_bad_head, Else-is_bad_head}
+
+pub returns-then-head-eq-FREE : goal.returns-then-head-eq-FREE
+unfolding damaged
+returns-then-head-eq-FREE c =
+    simp (← c.requires.phase_is, eq-eqb _ _ c.if-head-eq-FREE.true)
+
+-- A ROW IN USE: its head and its entries decide
+in_use : {head : Head} {g : List ℕ} (records : ℕ) → HeadOf g head → (head.phase ≡ 0 → ⊥) → damaged g records ≡ bad_head g || bad_entry g records
+unfolding damaged one_of
+in_use records is used = simp (← is.phase_is, ne_eqb _ _ used)
+
+head-is-bad : (c : After-is_bad_head) → bad_head c.args.row.now ≡ c.is_bad_head.result
+head-is-bad c =
+    sym (c.is_bad_head.ensures ∙ bad_head_lem c.requires)
+
+pub returns-then-is_bad_head : goal.returns-then-is_bad_head
+returns-then-is_bad_head c = simp (in_use c.args.records c.requires c.if-head-eq-FREE.false, head-is-bad (goal.at.returns-then-is_bad_head c).After-is_bad_head, c.if-is_bad_head.true)
+
+-- A HEAD IN ORDER: the entries decide, of which there are no more than a row can have
+head-fine : (c : Else-is_bad_head) → bad_head c.args.row.now ≡ false
+head-fine c = sym (c.is_bad_head.ensures ∙ bad_head_lem c.requires) ∙ c.if-is_bad_head.false
+
+by_entries : (c : Else-is_bad_head) → damaged c.args.row.now c.args.records ≡ bad_entry c.args.row.now c.args.records
+by_entries c = in_use _ c.requires c.if-head-eq-FREE.false ∙ rw (head-fine c)
+
+pub some_bad_read-requires : goal.some_bad_read-requires
+some_bad_read-requires c =
+    (c.requires, (head-fits _ c.requires (head-fine (goal.at.some_bad_read-requires c).Else-is_bad_head)).0)
+
+pub returns-then-some_bad_read : goal.returns-then-some_bad_read
+unfolding bad_entry one_of
+returns-then-some_bad_read c =
+    simp (by_entries (goal.at.returns-then-some_bad_read c).Else-is_bad_head, ← c.requires.reads_is, ← c.some_bad_read.ensures, c.if-some_bad_read.true)
+
+pub some_bad_write-requires : goal.some_bad_write-requires
+some_bad_write-requires c =
+    (head-fits _ c.requires (head-fine (goal.at.some_bad_write-requires c).Else-is_bad_head)).1
+
+pub returns : goal.returns
+unfolding bad_entry one_of
+returns c =
+    simp (
+      by_entries (goal.at.returns c).Else-is_bad_head,
+      ← c.requires.reads_is,
+      ← c.requires.writes_is,
+      ← c.some_bad_read.ensures,
+      c.if-some_bad_read.false,
+      ← c.some_bad_write.ensures,
+    )

@@ -1,0 +1,13 @@
+use Prim.Native.Nat.{◌-◌}
+use mathlib.Core.Path.{◌≡◌, ◌∙◌, sym}
+use native.Mathlib.Omega.{arith}
+use borrow.Author.Rules.{rules}
+use Rattle.rules.specs.Refusals.{bad_read}
+use Rattle.rows.specs.Search.{Passed, none_passes, passed_more, passed_none, some_passes}
+use Rattle.seats.proofs.some_bad_read.Given as goal
+
+abbrev pub invariant-loop-i : goal.invariant-loop-i
+invariant-loop-i l = Passed (bad_read l.row l.records) l.head.reads l.i
+
+abbrev pub decreases-loop-i : goal.decreases-loop-i
+decreases-loop-i l = l.head.reads - l.i

@@ -1,0 +1,8 @@
+-- `seats::store` meets its contract. Assumes nothing.
+use mathlib.Core.Path.{sym}
+use borrow.Author.Rules.{rules}
+use lib.Seq.{set_out}
+use Rattle.seats.proofs.store.Goals as goal
+
+pub returns-else-k-list : goal.returns-else-k-list
+returns-else-k-list c = sym (set_out _ _ _ c.if-k-list.false)

@@ -1,0 +1,10 @@
+-- `seats::write_of` meets its contract. Assumes nothing.
+use mathlib.Core.Path.{◌∙◌, ap}
+use borrow.Author.Rules.{rules}
+use Rattle.rules.specs.Tests.{first}
+use Rattle.rules.specs.Work.{write_names}
+use Rattle.seats.proofs.write_of.Goals as goal
+
+pub returns : goal.returns
+unfolding write_names
+returns c = c.find.ensures ∙ ap (first _) c.lesser.ensures
