@@ -16,7 +16,7 @@ pub extern "C" fn ponsevran_setup(
     plan: &[u64; 32],
     number: &mut u64,
 ) -> u64
-    ensures { Given (setup (lent values words seats) start plan.now) result number.new (left_tables values words seats) }
+    ensures { Given (setup (lent values.now words.old seats.old) start plan.now) result number.new (left_tables values.now words.new seats.new) }
 {
     let a = plan::setup(values, words, seats, start, plan);
     *number = answers::number_of(a);
@@ -31,7 +31,7 @@ pub extern "C" fn ponsevran_open(
     owner: u64,
     number: &mut u64,
 ) -> u64
-    ensures { Given (open_seat (lent values words seats) owner) result number.new (left_tables values words seats) }
+    ensures { Given (open_seat (lent values.now words.now seats.old) owner) result number.new (left_tables values.now words.now seats.new) }
 {
     let a = plan::open(values, words, seats, owner);
     *number = answers::number_of(a);
@@ -48,7 +48,7 @@ pub extern "C" fn ponsevran_read(
     item: u64,
     number: &mut u64,
 ) -> u64
-    ensures { Given (read (lent values words seats) owner seat item) result number.new (left_tables values words seats) }
+    ensures { Given (read (lent values.now words.now seats.old) owner seat item) result number.new (left_tables values.now words.now seats.new) }
 {
     let a = work::read(values, words, seats, owner, seat, item);
     *number = answers::number_of(a);
@@ -66,7 +66,7 @@ pub extern "C" fn ponsevran_write(
     value: u64,
     number: &mut u64,
 ) -> u64
-    ensures { Given (write (lent values words seats) owner seat item value) result number.new (left_tables values words seats) }
+    ensures { Given (write (lent values.now words.now seats.old) owner seat item value) result number.new (left_tables values.now words.now seats.new) }
 {
     let a = work::write(values, words, seats, owner, seat, item, value);
     *number = answers::number_of(a);
@@ -82,7 +82,7 @@ pub extern "C" fn ponsevran_advance(
     seat: u64,
     number: &mut u64,
 ) -> u64
-    ensures { Given (advance (lent values words seats) owner seat) result number.new (left_tables values words seats) }
+    ensures { Given (advance (lent values.old words.old seats.old) owner seat) result number.new (left_tables values.new words.new seats.new) }
 {
     let a = commit::advance(values, words, seats, owner, seat);
     *number = answers::number_of(a);
@@ -98,7 +98,7 @@ pub extern "C" fn ponsevran_abandon(
     seat: u64,
     number: &mut u64,
 ) -> u64
-    ensures { Given (abandon (lent values words seats) owner seat) result number.new (left_tables values words seats) }
+    ensures { Given (abandon (lent values.now words.old seats.old) owner seat) result number.new (left_tables values.now words.new seats.new) }
 {
     let a = commit::abandon(values, words, seats, owner, seat);
     *number = answers::number_of(a);

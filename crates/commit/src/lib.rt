@@ -56,7 +56,7 @@ fn held_locks(head: Head) -> u64
 
 fn let_go(words: &mut [u64], seats: &mut [u64], seat: u64, head: Head)
     requires { Holding (row seats.old seat) (length words.old) head }
-    ensures { (t : Tables) (a : Answer) → left_locks t a words seats ≡ let_go (lent_locks t words seats) seat a }
+    ensures { (t : Tables) (a : Answer) → left_locks t a words.new seats.new ≡ let_go (lent_locks t words.old seats.old) seat a }
 {
     let held = held_locks(head);
     release(words, row_of(seats, seat), held);
@@ -65,7 +65,7 @@ fn let_go(words: &mut [u64], seats: &mut [u64], seat: u64, head: Head)
 
 fn abort(words: &mut [u64], seats: &mut [u64], seat: u64, head: Head, why: u64) -> Answer
     requires { Holding (row seats.old seat) (length words.old) head }
-    ensures { (t : Tables) → left_locks t result words seats ≡ let_go (lent_locks t words seats) seat (Aborted why) }
+    ensures { (t : Tables) → left_locks t result words.new seats.new ≡ let_go (lent_locks t words.old seats.old) seat (Aborted why) }
 {
     let_go(words, seats, seat, head);
     Answer::Aborted(why)
@@ -81,7 +81,7 @@ fn move_to(seats: &mut [u64], seat: u64, phase: u64, position: u64)
 
 fn lock_step(words: &mut [u64], seats: &mut [u64], seat: u64, head: Head) -> Answer
     requires { LocksNext (row seats.old seat) (length words.old) head }
-    ensures { (t : Tables) → left_locks t result words seats ≡ lock_step (lent_locks t words seats) seat }
+    ensures { (t : Tables) → left_locks t result words.new seats.new ≡ lock_step (lent_locks t words.old seats.old) seat }
 {
     let item = at(
         row_of(seats, seat),
@@ -127,7 +127,7 @@ fn due_time(words: &[u64], row: &[u64], from: u64, n: u64) -> u64
 
 fn time_step(words: &mut [u64], seats: &mut [u64], seat: u64, head: Head) -> Answer
     requires { Locking (row seats.old seat) (length words.old) head }
-    ensures { (t : Tables) → left_locks t result words seats ≡ time_step (lent_locks t words seats) seat }
+    ensures { (t : Tables) → left_locks t result words.new seats.new ≡ time_step (lent_locks t words.old seats.old) seat }
 {
     let row = row_of(seats, seat);
     let time = due_time(words, row, seen_time(row, head.reads), head.writes);
@@ -181,7 +181,7 @@ fn extended_word(word: u64, time: u64) -> u64
 // Passing a check: position up by one.
 fn pass(seats: &mut [u64], seat: u64, position: u64, item: u64) -> Answer
     requires { position ≤ most_reads }
-    ensures { (t : Tables) → left_seats t result seats ≡ passed_to (lent_seats t seats) seat position item }
+    ensures { (t : Tables) → left_seats t result seats.new ≡ passed_to (lent_seats t seats.old) seat position item }
 {
     give(seats, seat, POSITION, position + 1);
     Answer::Checked(item)
@@ -196,7 +196,7 @@ fn check_word(
     kept_write: u64,
 ) -> Answer
     requires { ChecksWord (row seats.old seat) (length words.old) head item kept_write }
-    ensures { (t : Tables) → left_locks t result words seats ≡ check_step (lent_locks t words seats) seat }
+    ensures { (t : Tables) → left_locks t result words.new seats.new ≡ check_step (lent_locks t words.old seats.old) seat }
 {
     let word = at(words, item);
     let row = row_of(seats, seat);
@@ -216,7 +216,7 @@ fn check_word(
 // Where the kept read time covers the time, the entry passes and nothing else is looked at.
 fn check_step(words: &mut [u64], seats: &mut [u64], seat: u64, head: Head) -> Answer
     requires { ChecksNext (row seats.old seat) (length words.old) head }
-    ensures { (t : Tables) → left_locks t result words seats ≡ check_step (lent_locks t words seats) seat }
+    ensures { (t : Tables) → left_locks t result words.new seats.new ≡ check_step (lent_locks t words.old seats.old) seat }
 {
     let row = row_of(seats, seat);
     let item = at(row, READ_ITEM + READ_WIDTH * head.position);
@@ -229,7 +229,7 @@ fn check_step(words: &mut [u64], seats: &mut [u64], seat: u64, head: Head) -> An
 
 fn seal_step(seats: &mut [u64], seat: u64, time: u64) -> Answer
     requires { time ≡ time_of (row seats.old seat) }
-    ensures { (t : Tables) → left_seats t result seats ≡ seal_step (lent_seats t seats) seat }
+    ensures { (t : Tables) → left_seats t result seats.new ≡ seal_step (lent_seats t seats.old) seat }
 {
     move_to(seats, seat, STORING, 0);
     Answer::Sealed(time)
@@ -247,7 +247,7 @@ fn fresh_word(time: u64) -> u64
     w
 }
 
-fn store_step_lem(
+fn store_step(
     values: &mut [u64],
     words: &mut [u64],
     seats: &mut [u64],
@@ -255,7 +255,7 @@ fn store_step_lem(
     head: Head,
 ) -> Answer
     requires { StoresNext (row seats.old seat) (length words.old) head }
-    ensures { left result values words seats ≡ store_step (lent values words seats) seat }
+    ensures { left result values.new words.new seats.new ≡ store_step (lent values.old words.old seats.old) seat }
 {
     let row = row_of(seats, seat);
     let item = at(row, WRITE_ITEM + WRITE_WIDTH * head.position);
@@ -268,7 +268,7 @@ fn store_step_lem(
 
 fn done_step(seats: &mut [u64], seat: u64, time: u64) -> Answer
     requires { time ≡ time_of (row seats.old seat) }
-    ensures { (t : Tables) → left_seats t result seats ≡ done_step (lent_seats t seats) seat }
+    ensures { (t : Tables) → left_seats t result seats.new ≡ done_step (lent_seats t seats.old) seat }
 {
     free_row(seats, seat);
     Answer::Done(time)
@@ -277,7 +277,7 @@ fn done_step(seats: &mut [u64], seat: u64, time: u64) -> Answer
 // ADVANCE
 fn lock_phase(words: &mut [u64], seats: &mut [u64], seat: u64, head: Head) -> Answer
     requires { Locking (row seats.old seat) (length words.old) head }
-    ensures { (t : Tables) → left_locks t result words seats ≡ lock_phase (lent_locks t words seats) seat }
+    ensures { (t : Tables) → left_locks t result words.new seats.new ≡ lock_phase (lent_locks t words.old seats.old) seat }
 {
     let held = head.position;
     if held < head.writes {
@@ -288,7 +288,7 @@ fn lock_phase(words: &mut [u64], seats: &mut [u64], seat: u64, head: Head) -> An
 
 fn check_phase(words: &mut [u64], seats: &mut [u64], seat: u64, head: Head) -> Answer
     requires { Checking (row seats.old seat) (length words.old) head }
-    ensures { (t : Tables) → left_locks t result words seats ≡ check_phase (lent_locks t words seats) seat }
+    ensures { (t : Tables) → left_locks t result words.new seats.new ≡ check_phase (lent_locks t words.old seats.old) seat }
 {
     if head.position < head.reads {
         return check_step(words, seats, seat, head);
@@ -304,10 +304,10 @@ fn store_phase(
     head: Head,
 ) -> Answer
     requires { Storing (row seats.old seat) (length words.old) head }
-    ensures { left result values words seats ≡ store_phase (lent values words seats) seat }
+    ensures { left result values.new words.new seats.new ≡ store_phase (lent values.old words.old seats.old) seat }
 {
     if head.position < head.writes {
-        return store_step_lem(values, words, seats, seat, head);
+        return store_step(values, words, seats, seat, head);
     }
     done_step(seats, seat, head.time)
 }
@@ -320,7 +320,7 @@ fn advance_in(
     head: Head,
 ) -> Answer
     requires { InUse (row seats.old seat) (length words.old) head }
-    ensures { left result values words seats ≡ advance_in (lent values words seats) seat }
+    ensures { left result values.new words.new seats.new ≡ advance_in (lent values.old words.old seats.old) seat }
 {
     let phase = head.phase;
     match phase {
@@ -340,7 +340,7 @@ pub fn advance(
     owner: u64,
     seat: u64,
 ) -> Answer
-    ensures { AdvanceAnswered (lent values words seats) owner seat (left result values words seats) }
+    ensures { AdvanceAnswered (lent values.old words.old seats.old) owner seat (left result values.new words.new seats.new) }
 {
     let admission = admit(values, words, seats, owner, seat, false, STORING);
     match admission {
@@ -357,7 +357,7 @@ pub fn abandon(
     owner: u64,
     seat: u64,
 ) -> Answer
-    ensures { AbandonAnswered (lent values words seats) owner seat (left result values words seats) }
+    ensures { AbandonAnswered (lent values.now words.old seats.old) owner seat (left result values.now words.new seats.new) }
 {
     let admission = admit(values, words, seats, owner, seat, false, CHECKING);
     match admission {

@@ -93,9 +93,9 @@ fn take_calls(
     seats: &mut [u64],
     out: &mut [u8],
 ) -> Flow
-    requires { unfit_for buf.old from to (counts_of f) (lent_now values words seats) out.old ≡ false }
-    ensures { Goes (onward (state_of (counts_of f) (lent values words seats)) (part buf.old from to)) buf.old out.old
-        result buf.new (left_tables values words seats) out.new }
+    requires { unfit_for buf.old from to (counts_of f) (lent_now values.old words.old seats.old) out.old ≡ false }
+    ensures { Goes (onward (state_of (counts_of f) (lent values.old words.old seats.old)) (part buf.old from to)) buf.old out.old
+        result buf.new (left_tables values.new words.new seats.new) out.new }
 {
     let r = tape::absorb(buf, from, to, counts_of(f), values, words, seats, out);
     Flow {
@@ -119,9 +119,9 @@ fn open_tape(
     seats: &mut [u64],
     out: &mut [u8],
 ) -> Flow
-    requires { unready f buf.old to (lent_now values words seats) out.old ≡ false }
-    ensures { Goes (opened (state_of (counts_of f) (lent values words seats)) (part buf.old 0 to)) buf.old out.old
-        result buf.new (left_tables values words seats) out.new }
+    requires { unready f buf.old to (lent_now values.old words.old seats.old) out.old ≡ false }
+    ensures { Goes (opened (state_of (counts_of f) (lent values.old words.old seats.old)) (part buf.old 0 to)) buf.old out.old
+        result buf.new (left_tables values.new words.new seats.new) out.new }
 {
     if to == 0 {
         return unbegun(f, false, 0);
@@ -143,8 +143,8 @@ pub fn step(
     seats: &mut [u64],
     out: &mut [u8],
 ) -> Flow
-    ensures { Stepped f buf.old to (lent values words seats) out.old
-        result buf.new (left_tables values words seats) out.new }
+    ensures { Stepped f buf.old to (lent values.old words.old seats.old) out.old
+        result buf.new (left_tables values.new words.new seats.new) out.new }
 {
     if tape::is_unfit(
         buf.len(),

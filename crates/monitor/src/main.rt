@@ -123,9 +123,9 @@ fn pump(
     seats: &mut [u64],
     out: &mut [u8],
 ) -> Flow
-    requires { Asked f buf.old to (lent_now values words seats) out.old }
-    ensures { Pumped f buf.old to (lent values words seats) out.old
-        result buf.new (left_tables values words seats) out.new }
+    requires { Asked f buf.old to (lent_now values.old words.old seats.old) out.old }
+    ensures { Pumped f buf.old to (lent values.old words.old seats.old) out.old
+        result buf.new (left_tables values.new words.new seats.new) out.new }
 {
     flow::step(f, buf, to, values, words, seats, out)
 }
@@ -140,7 +140,7 @@ fn close(f: Flow, out: &mut [u8]) -> usize
 
 // Reads, hands on what was read, and writes what is given, to the end of the tape.
 fn play(buf: &mut [u8], values: &mut [u64], words: &mut [u64], seats: &mut [u64], out: &mut [u8])
-    requires { Buffers buf.old (lent_now values words seats) out.old }
+    requires { Buffers buf.old (lent_now values.old words.old seats.old) out.old }
 {
     let mut f = flow::start();
     let mut turns = TURNS;

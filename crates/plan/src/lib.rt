@@ -55,7 +55,7 @@ pub fn setup(
     start: u64,
     plan: &[u64; PLAN_WIDTH as usize],
 ) -> Answer
-    ensures { SetupAnswered (lent values words seats) start plan.now (left result values words seats) }
+    ensures { SetupAnswered (lent values.now words.old seats.old) start plan.now (left result values.now words.new seats.new) }
 {
     let records = words.len() as u64;
     if is_unsized(values.len() as u64, records, seats.len() as u64) {
@@ -75,7 +75,7 @@ pub fn setup(
 
 // OPEN
 // What one pass over the rows finds, beside the seats that each owner holds.
-#[derive(Drop)]
+#[derive(Clone, Copy)]
 struct Rows {
     // whether a row is one that Open refuses
     bad: bool,
@@ -217,7 +217,7 @@ fn open_row(seats: &mut [u64], seat: u64, owner: u64)
 
 // The lowest free seat, where the plan allows the owner one.
 pub fn open(values: &[u64], words: &[u64], seats: &mut [u64], owner: u64) -> Answer
-    ensures { OpenAnswered (lent values words seats) owner (left result values words seats) }
+    ensures { OpenAnswered (lent values.now words.now seats.old) owner (left result values.now words.now seats.new) }
 {
     if is_unsized(values.len() as u64, words.len() as u64, seats.len() as u64) {
         return Answer::Refused(1);

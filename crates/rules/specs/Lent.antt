@@ -1,37 +1,35 @@
 -- The tables that a call is lent, as a contract names them: once, for every call.
 use Rattle.std.specs.Prelude.{ℕ, List}
-use Rattle.std.specs.Borrow.{Bor}
-use denote.Triple.Both.{Both}
 use Rattle.rules.specs.Tables.{Tables, Outcome, tables, with_words, with_seats, answered}
 use Rattle.rules.specs.declared.Answer.{Answer}
 
--- a lent table, at the call's entry and at its exit
+-- a lent table: `.old` at the call's entry and `.new` at its exit, `.now` where it is lent to be read alone
 abbrev pub Lent : Type 0
-Lent = Both (Bor (List ℕ)) (Bor (List ℕ))
+Lent = List ℕ
 
 -- all three, as what a call requires names them
-abbrev pub lent_now : Bor (List ℕ) → Bor (List ℕ) → Bor (List ℕ) → Tables
-lent_now values words seats = tables values.now words.now seats.now
+abbrev pub lent_now : Lent → Lent → Lent → Tables
+lent_now values words seats = tables values words seats
 
 -- all three, as the call found them; as it left them; and its answer with what it left
 abbrev pub lent : Lent → Lent → Lent → Tables
-lent values words seats = tables values.entry.now words.entry.now seats.entry.now
+lent values words seats = tables values words seats
 
 abbrev pub left_tables : Lent → Lent → Lent → Tables
-left_tables values words seats = tables values.exit.now words.exit.now seats.exit.now
+left_tables values words seats = tables values words seats
 
 abbrev pub left : Answer → Lent → Lent → Lent → Outcome
 left r values words seats = answered r (left_tables values words seats)
 
 -- a step that is lent the words and the seats, or the seats alone: t has the tables that it does not see
 abbrev pub lent_locks : Tables → Lent → Lent → Tables
-lent_locks t words seats = with_seats (with_words t words.entry.now) seats.entry.now
+lent_locks t words seats = with_seats (with_words t words) seats
 
 abbrev pub left_locks : Tables → Answer → Lent → Lent → Outcome
-left_locks t r words seats = answered r (with_seats (with_words t words.exit.now) seats.exit.now)
+left_locks t r words seats = answered r (with_seats (with_words t words) seats)
 
 abbrev pub lent_seats : Tables → Lent → Tables
-lent_seats t seats = with_seats t seats.entry.now
+lent_seats t seats = with_seats t seats
 
 abbrev pub left_seats : Tables → Answer → Lent → Outcome
-left_seats t r seats = answered r (with_seats t seats.exit.now)
+left_seats t r seats = answered r (with_seats t seats)

@@ -315,7 +315,7 @@ pub fn admit(
     unknown: bool,
     last: u64,
 ) -> Admission
-    ensures { Admitted (lent values words seats) owner seat unknown last result }
+    ensures { Admitted (lent values.now words.now seats.now) owner seat unknown last result }
 {
     let records = words.len() as u64;
     if is_unsized(values.len() as u64, records, seats.len() as u64) {

@@ -91,8 +91,8 @@ fn feed(
     from: usize,
 ) -> Extent
     requires { Counted k (length part.now) }
-    ensures { Ran (fed (length part.now) (state_of k (lent values words seats)) part.now) part.now k.offset from out.old
-        result (left_tables values words seats) out.new }
+    ensures { Ran (fed (length part.now) (state_of k (lent values.old words.old seats.old)) part.now) part.now k.offset from out.old
+        result (left_tables values.new words.new seats.new) out.new }
 {
     let base = k.offset;
     let mut used = 0;
@@ -242,8 +242,8 @@ pub fn absorb(
     seats: &mut [u64],
     out: &mut [u8],
 ) -> Intake
-    ensures { Absorbed buf.old from to k (lent values words seats) out.old
-        result buf.new (left_tables values words seats) out.new }
+    ensures { Absorbed buf.old from to k (lent values.old words.old seats.old) out.old
+        result buf.new (left_tables values.new words.new seats.new) out.new }
 {
     if is_unfit(buf.len(), from, to, k, values.len(), words.len(), out.len()) {
         return Intake {

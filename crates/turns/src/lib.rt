@@ -105,7 +105,7 @@ fn set_up(
     seats: &mut [u64],
 ) -> Answer
     requires { length b.now ≡ setup_size }
-    ensures { left result values words seats ≡ performed records (lent values words seats) (Call.Setup count start) b.now }
+    ensures { left result values.now words.new seats.new ≡ performed records (lent values.now words.old seats.old) (Call.Setup count start) b.now }
 {
     if 0 < records {
         return Answer::Refused(SETUP_AGAIN);
@@ -129,7 +129,7 @@ fn perform(
     seats: &mut [u64],
 ) -> Answer
     requires { PlanFits c b.now }
-    ensures { left result values words seats ≡ performed records (lent values words seats) c b.now }
+    ensures { left result values.new words.new seats.new ≡ performed records (lent values.old words.old seats.old) c b.now }
 {
     let n = first_of(records, values.len());
     let m = first_of(records, words.len());
@@ -181,8 +181,8 @@ fn call_turn(
     at: usize,
 ) -> Turn
     requires { PlanFits c b.now }
-    ensures { Taken (call_turn n records (lent values words seats) b.now c) (lent values words seats) out.old at
-        result (left_tables values words seats) out.new }
+    ensures { Taken (call_turn n records (lent values.old words.old seats.old) b.now c) (lent values.old words.old seats.old) out.old at
+        result (left_tables values.new words.new seats.new) out.new }
 {
     let a = perform(c, b, records, values, words, seats);
     let len = say(out, at, n, a);
@@ -202,8 +202,8 @@ fn body_turn(
     out: &mut [u8],
     at: usize,
 ) -> Turn
-    ensures { Taken (body_turn n offset records (lent values words seats) b.now (decoded b.now)) (lent values words seats) out.old at
-        result (left_tables values words seats) out.new }
+    ensures { Taken (body_turn n offset records (lent values.old words.old seats.old) b.now (decoded b.now)) (lent values.old words.old seats.old) out.old at
+        result (left_tables values.new words.new seats.new) out.new }
 {
     let d = decode(b);
     match d {
@@ -229,8 +229,8 @@ pub fn take_turn(
     out: &mut [u8],
     at: usize,
 ) -> Turn
-    ensures { Taken (turn_of n offset records (lent values words seats) rest.now) (lent values words seats) out.old at
-        result (left_tables values words seats) out.new }
+    ensures { Taken (turn_of n offset records (lent values.old words.old seats.old) rest.now) (lent values.old words.old seats.old) out.old at
+        result (left_tables values.new words.new seats.new) out.new }
 {
     let f = split(rest);
     match f {

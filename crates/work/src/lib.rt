@@ -40,7 +40,7 @@ fn first_read(
     item: u64,
 ) -> Answer
     requires { reads ≡ reads_of (row seats.old seat) }
-    ensures { left result values words seats ≡ first_read (lent values words seats) seat item }
+    ensures { left result values.now words.now seats.new ≡ first_read (lent values.now words.now seats.old) seat item }
 {
     if MOST_READS <= reads {
         return Answer::Refused(8);
@@ -63,7 +63,7 @@ fn read_in(
     item: u64,
 ) -> Answer
     requires { InUse (row seats.old seat) (length words.now) head }
-    ensures { left result values words seats ≡ read_in (lent values words seats) seat item }
+    ensures { left result values.now words.now seats.new ≡ read_in (lent values.now words.now seats.old) seat item }
 {
     let row = row_of(seats, seat);
     let w = write_of(row, head.writes, item);
@@ -86,7 +86,7 @@ pub fn read(
     seat: u64,
     item: u64,
 ) -> Answer
-    ensures { ReadAnswered (lent values words seats) owner seat item (left result values words seats) }
+    ensures { ReadAnswered (lent values.now words.now seats.old) owner seat item (left result values.now words.now seats.new) }
 {
     let unknown = words.len() as u64 <= item;
     let admission = admit(values, words, seats, owner, seat, unknown, WORKING);
@@ -140,7 +140,7 @@ fn place(seats: &mut [u64], seat: u64, n: u64, i: u64, item: u64, value: u64)
 
 fn write_in(seats: &mut [u64], seat: u64, head: Head, item: u64, value: u64) -> Answer
     requires { WritesOf (row seats.old seat) head.writes }
-    ensures { (t : Tables) → left_seats t result seats ≡ write_in (lent_seats t seats) seat item value }
+    ensures { (t : Tables) → left_seats t result seats.new ≡ write_in (lent_seats t seats.old) seat item value }
 {
     let row = row_of(seats, seat);
     let w = write_of(row, head.writes, item);
@@ -166,7 +166,7 @@ pub fn write(
     item: u64,
     value: u64,
 ) -> Answer
-    ensures { WriteAnswered (lent values words seats) owner seat item value (left result values words seats) }
+    ensures { WriteAnswered (lent values.now words.now seats.old) owner seat item value (left result values.now words.now seats.new) }
 {
     let unknown = words.len() as u64 <= item;
     let admission = admit(values, words, seats, owner, seat, unknown, WORKING);

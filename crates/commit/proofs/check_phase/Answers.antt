@@ -1,0 +1,22 @@
+-- `commit::check_phase` meets its contract. Assumes nothing.
+use borrow.Author.Tests.{le-ltb, lt-ltb}
+use borrow.Author.Rules.{rules}
+use Rattle.rules.specs.Tables.{with_words}
+use Rattle.rules.specs.Advance.{check_phase}
+use Rattle.commit.proofs.check_phase.Goals as goal
+
+pub check_step-requires : goal.check_step-requires
+check_step-requires c =
+    record { in_use = c.requires.in_use; phase_is = c.requires.phase_is; below = c.if-head.true }
+
+pub returns-then-head : goal.returns-then-head
+unfolding check_phase
+returns-then-head c = λ t.
+    let head = c.requires.in_use.head in
+    simp (← head.position_is, ← head.reads_is, lt-ltb _ _ c.if-head.true) (c.check_step.ensures t)
+
+pub returns : goal.returns
+unfolding check_phase
+returns c = λ t.
+    let head = c.requires.in_use.head in
+    simp (← head.position_is, ← head.reads_is, le-ltb _ _ c.if-head.false) (c.seal_step.ensures (with_words t c.args.words.now))

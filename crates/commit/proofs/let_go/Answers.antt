@@ -1,0 +1,17 @@
+-- `commit::let_go` meets its contract. Assumes nothing.
+use mathlib.Core.Path.{refl}
+use borrow.Author.Rules.{rules}
+use Rattle.rules.specs.Advance.{let_go}
+use Rattle.seats.specs.Outcomes.{same}
+use Rattle.commit.proofs.Entries.{held_is, held_small}
+use Rattle.commit.proofs.let_go.Goals as goal
+
+pub release-requires : goal.release-requires
+release-requires c =
+    rw c.held_locks-held.ensures (held_small c.requires)
+
+pub returns : goal.returns
+unfolding let_go
+returns c = λ t a.
+    simp (held_is c.requires.in_use.head, ← c.held_locks-held.ensures, ← c.row_of.ensures)
+    (same refl refl c.release.ensures c.free_row.ensures)

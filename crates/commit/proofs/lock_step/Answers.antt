@@ -1,0 +1,34 @@
+-- `commit::lock_step` meets its contract. Assumes nothing.
+use mathlib.Core.Path.{refl}
+use native.Mathlib.Omega.{arith}
+use borrow.Author.Rules.{rules}
+use Rattle.rules.specs.Advance.{lock_step}
+use Rattle.seats.specs.Outcomes.{entry_at, same}
+use Rattle.commit.proofs.lock_step.Goals as goal
+
+pub abort-requires : goal.abort-requires
+abort-requires c =
+    record { in_use = c.requires.in_use; phase_in = omega (arith, c.requires.phase_in) }
+
+-- the word is locked
+pub returns-then-is_locked : goal.returns-then-is_locked
+unfolding lock_step
+returns-then-is_locked c = λ t.
+    let item = entry_at c.row_of.ensures _ c.at-item.ensures in
+    let test = c.is_locked.ensures in
+    simp (← c.requires.in_use.head.position_is, item, ← c.at-word.ensures, ← test, c.if-is_locked.true) (c.abort.ensures t)
+
+-- it is not, and is taken
+pub returns : goal.returns
+unfolding lock_step
+returns c = λ t.
+    let item = entry_at c.row_of.ensures _ c.at-item.ensures in
+    simp (
+      ← c.requires.in_use.head.position_is,
+      item,
+      ← c.at-word.ensures,
+      ← c.is_locked.ensures,
+      c.if-is_locked.false,
+      ← c.lock.ensures,
+    )
+    (same refl refl c.store.ensures c.move_to.ensures)

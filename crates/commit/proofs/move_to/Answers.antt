@@ -1,0 +1,11 @@
+-- `commit::move_to` meets its contract. Assumes nothing.
+use mathlib.Core.Path.{refl}
+use borrow.Author.Rules.{rules}
+use Rattle.rules.specs.Advance.{moved}
+use Rattle.seats.specs.Outcomes.{next}
+use Rattle.commit.proofs.move_to.Goals as goal
+
+pub returns : goal.returns
+unfolding moved
+returns c =
+    next _ _ _ c.give-2.ensures c.give.ensures refl

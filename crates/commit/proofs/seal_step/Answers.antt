@@ -1,0 +1,11 @@
+-- `commit::seal_step` meets its contract. Assumes nothing.
+use mathlib.Core.Path.{refl}
+use borrow.Author.Rules.{rules}
+use Rattle.rules.specs.Advance.{seal_step}
+use Rattle.seats.specs.Outcomes.{same}
+use Rattle.commit.proofs.seal_step.Goals as goal
+
+pub returns : goal.returns
+unfolding seal_step
+returns c = λ t.
+    simp (← c.requires) (same refl refl refl c.move_to.ensures)

@@ -1,0 +1,22 @@
+-- `commit::store_phase` meets its contract. Assumes nothing.
+use borrow.Author.Tests.{le-ltb, lt-ltb}
+use borrow.Author.Rules.{rules}
+use Rattle.rules.specs.Tables.{Tables, tables}
+use Rattle.rules.specs.Advance.{store_phase}
+use Rattle.commit.proofs.store_phase.Goals as goal
+
+pub store_step-requires : goal.store_step-requires
+store_step-requires c =
+    record { in_use = c.requires.in_use; phase_is = c.requires.phase_is; below = c.if-head.true }
+
+pub returns-then-head : goal.returns-then-head
+unfolding store_phase
+returns-then-head c =
+    let head = c.requires.in_use.head in
+    simp (← head.position_is, ← head.writes_is, lt-ltb _ _ c.if-head.true) c.store_step.ensures
+
+pub returns : goal.returns
+unfolding store_phase
+returns c =
+    let head = c.requires.in_use.head in
+    simp (← head.position_is, ← head.writes_is, le-ltb _ _ c.if-head.false) (c.done_step.ensures (tables c.args.values.now c.args.words.now c.args.seats.now))

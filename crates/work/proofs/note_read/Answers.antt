@@ -1,0 +1,14 @@
+-- `work::note_read` meets its contract. Assumes nothing.
+use mathlib.Core.Path.{refl}
+use borrow.Author.Rules.{rules}
+use Rattle.rules.specs.Work.{read_noted}
+use Rattle.seats.specs.Outcomes.{next}
+use Rattle.work.proofs.note_read.Goals as goal
+
+pub returns : goal.returns
+unfolding read_noted
+returns c =
+    let named = next _ _ _ c.give-2.ensures c.give.ensures refl in
+    let written = next _ _ _ c.give-3.ensures named c.write_time-kept_write.ensures in
+    let timed = next _ _ _ c.give-4.ensures written c.read_time-kept_read.ensures in
+    simp (← c.requires.count_is) (next _ _ _ c.give-5.ensures timed refl)
