@@ -8,7 +8,7 @@ use rules::Answer;
 use text::MOST_LETTERS;
 
 // A word's letters, at the front of as many bytes as a line takes of it, with spaces behind.
-#[derive(Drop)]
+#[derive(Clone, Copy)]
 pub struct Spelled {
     pub letters: [u8; MOST_LETTERS],
     pub len: usize,

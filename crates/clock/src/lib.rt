@@ -6,14 +6,14 @@ ghost use Rattle.clock.specs.Word.{distance_span, top, word_of};
 ghost use Rattle.clock.specs.Promises.{TopIs, LockIs, DistanceIs, WriteTimeIs, ReadTimeIs, PartsAre, PackedIs, LockedIs, UnlockedIs, FreshIs, ExtendedIs};
 
 // A word, or refusal 2 where the parts or the time are not to be had in one.
-#[derive(Drop)]
+#[derive(Clone, Copy)]
 pub enum Packed {
     Word(u64),
     Refused(u64),
 }
 
 // A word read apart.
-#[derive(Drop)]
+#[derive(Clone, Copy)]
 pub struct Parts {
     pub locked: bool,
     pub distance: u64,

@@ -12,7 +12,7 @@ use tape::{CALLS_FROM, Counts, FIRST_OFFSET, VERSION};
 use turns::Fault;
 
 // What is kept from one part of a tape to the next.
-#[derive(Drop)]
+#[derive(Clone, Copy)]
 pub struct Flow {
     // The version byte was read, and was 1.
     pub begun: bool,

@@ -8,7 +8,7 @@ ghost use Rattle.frames.specs.Decode.{setup_call, open_call, read_call, write_ca
 ghost use Rattle.frames.specs.Promises.{FrameIs, CallIs};
 
 // What stands at the start of the rest of a tape.
-#[derive(Drop)]
+#[derive(Clone, Copy)]
 pub enum Frame {
     Nothing,
     // Cut short: more bytes are wanted.
@@ -18,7 +18,7 @@ pub enum Frame {
 }
 
 // A call on the tape. A Setup's plan stays in its body.
-#[derive(Drop)]
+#[derive(Clone, Copy)]
 pub enum Call {
     Setup {
         count: u64,
@@ -46,7 +46,7 @@ pub enum Call {
     },
 }
 
-#[derive(Drop)]
+#[derive(Clone, Copy)]
 pub enum Decoded {
     Whole(Call),
     // A kind that is not known: 34.

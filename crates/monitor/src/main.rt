@@ -21,7 +21,7 @@ const OUTPUT: usize = LINE_ROOM * INPUT + LAST_ROOM;
 const TURNS: u64 = (FAR_OFF - 1) / (INPUT as u64);
 
 // What a read or a write came to: how far the bytes then go, and whether it failed.
-#[derive(Drop)]
+#[derive(Clone, Copy)]
 struct Moved {
     to: usize,
     failed: bool,

@@ -2,7 +2,7 @@
 #![tactic(auto)]
 
 // What a caller is told: one case for each word of the document, with its number.
-#[derive(Drop)]
+#[derive(Clone, Copy)]
 pub enum Answer {
     Ready(u64),
     Seat(u64),
@@ -20,7 +20,7 @@ pub enum Answer {
 }
 
 // What the check of a read entry comes to; a failure carries its abort number.
-#[derive(Drop)]
+#[derive(Clone, Copy)]
 pub enum Verdict {
     Passes,
     Extends,

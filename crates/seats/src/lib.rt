@@ -279,7 +279,7 @@ fn is_damaged(row: &[u64], head: Head, records: u64) -> bool
 
 // ADMITTING A CALL that names a seat
 // Whether it is refused, or may begin, with the head of its row.
-#[derive(Drop)]
+#[derive(Clone, Copy)]
 pub enum Admission {
     Refused(u64),
     Ready(Head),

@@ -12,7 +12,7 @@ use seats::layout::{GREATEST, MOST_RECORDS, SEATS_LENGTH};
 use turns::{Fault, LAST_ROOM, LINE_ROOM, Turn, take_turn};
 
 // What is kept from call to call beside the tables: the calls so far, the offset of the next, and the records that Setup gave.
-#[derive(Drop)]
+#[derive(Clone, Copy)]
 pub struct Counts {
     pub calls: u64,
     pub offset: u64,
@@ -20,7 +20,7 @@ pub struct Counts {
 }
 
 // How far a run came: the bytes that it took, the calls so far, the records lent, where the text ends, and whether the tape is stopped.
-#[derive(Drop)]
+#[derive(Clone, Copy)]
 pub struct Extent {
     pub used: usize,
     pub calls: u64,
@@ -30,7 +30,7 @@ pub struct Extent {
 }
 
 // What absorbing a part came to: the bytes that wait at the buffer's front, the counts, where the text ends, and whether the tape is stopped.
-#[derive(Drop)]
+#[derive(Clone, Copy)]
 pub struct Intake {
     pub waiting: usize,
     pub calls: u64,

@@ -3,13 +3,10 @@ use Prim.Native.Nat.{ℕ}
 use mathlib.Core.Path.{◌≡◌, refl, ap, sym, ◌∙◌}
 use mathlib.Core.List.{List, [], ◌∷◌, ◌++◌}
 use lib.ListN.{length, take, drop, take-append-drop}
-use denote.Enum.Declared.{tag_of}
-use types.Run.{OneOf, miss}
 use Rattle.rules.specs.Tables.{Tables, Outcome, tables, answered}
 use Rattle.rules.specs.declared.Answer.{Answer}
 use Rattle.frames.specs.declared.Call.{Call}
 use Rattle.frames.specs.declared.Call.TheVariants.{Setup, Open, Read, Write, Advance, Abandon}
-use Rattle.frames.specs.contracts.Call.{the_type}
 use Rattle.turns.specs.Calls.{first_records, given_back, FirstOf, records_after}
 
 -- a table that is only read comes back as it was
@@ -33,8 +30,8 @@ module _ (t : Tables) (n : ℕ) {i j : ℕ} (p : FirstOf n (length t.values) i) 
       rw (x, y, p.rest t.values refl, q.rest t.words refl) (ap (λ (o : Outcome). answered o.answer (given_back t n o.tables)) f)
 
 -- a call that is no Setup lends what was lent before
-pub lends_as_before : (c : Call) (records : ℕ) (a : Answer) → OneOf (1 ∷ 2 ∷ 3 ∷ 4 ∷ 5 ∷ []) (tag_of the_type c) → records ≡ records_after records c a
-lends_as_before (Setup n s) records a h = absurd (miss (1 ∷ 2 ∷ 3 ∷ 4 ∷ 5 ∷ []) 0 tt h)
+pub lends_as_before : (c : Call) (records : ℕ) (a : Answer) → ((n s : ℕ) → c ≡ Setup n s → ⊥) → records ≡ records_after records c a
+lends_as_before (Setup n s) records a h = absurd (h n s refl)
 lends_as_before (Open o) records a h = refl
 lends_as_before (Read o s x) records a h = refl
 lends_as_before (Write o s x v) records a h = refl

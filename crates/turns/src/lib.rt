@@ -16,7 +16,7 @@ use rules::Answer;
 use seats::layout::{MOST_RECORDS, PLAN_WIDTH};
 
 // What stops a tape.
-#[derive(Drop)]
+#[derive(Clone, Copy)]
 pub enum Fault {
     NoVersion,
     CutShort,
@@ -25,7 +25,7 @@ pub enum Fault {
 }
 
 // One turn at the rest of a tape.
-#[derive(Drop)]
+#[derive(Clone, Copy)]
 pub enum Turn {
     // More bytes are wanted.
     Wait,

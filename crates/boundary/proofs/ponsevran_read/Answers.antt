@@ -1,0 +1,8 @@
+-- `boundary::ponsevran_read` meets its contract. Assumes nothing.
+use borrow.Author.Rules.{rules}
+use Rattle.boundary.specs.Given.{given_of}
+use Rattle.boundary.proofs.ponsevran_read.Goals as goal
+
+pub returns : goal.returns
+returns c =
+    given_of c.read-a.ensures c.kind_of.ensures c.number_of.ensures

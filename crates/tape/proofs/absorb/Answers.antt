@@ -1,0 +1,96 @@
+-- `tape::absorb` meets its contract. Assumes nothing.
+use Prim.Native.Nat.{◌-◌, ◌≤◌}
+use native.Mathlib.Omega.{arith}
+use native.Mathlib.Nat.{le_refl}
+use mathlib.Core.Path.{◌≡◌, refl, sym, ◌∙◌}
+use mathlib.Core.Bool.{false, true≢false}
+use lib.ListN.{length, drop, length-drop}
+use lib.Seq.{length-take-le}
+use Rattle.rules.specs.Tables.{Tables, tables}
+use Rattle.tape.specs.Inner.{state_of}
+use Rattle.tape.specs.Runs.{grown}
+use Rattle.tape.specs.Promises.{part, unfit_for}
+use Rattle.tape.specs.Room.{Fit, fit, text_room}
+use Rattle.tape.proofs.Shifted.{took, waits_few}
+use borrow.Author.Rules.{rules}
+use Rattle.tape.proofs.absorb.Goals as goal
+use Rattle.tape.proofs.absorb.Goals.{After-feed-r, Else-is_unfit}
+
+-- unfit
+pub returns-then-is_unfit : goal.returns-then-is_unfit
+returns-then-is_unfit c =
+    let bad = sym c.is_unfit.ensures ∙ c.if-is_unfit.true in
+    record {
+      done = λ e. absurd (true≢false (sym bad ∙ e));
+      refused = λ _. record { answer_is = refl; buffer_is = refl; tables_are = refl; out_is = refl };
+      short = λ e. absurd (true≢false e);
+    }
+
+abbrev found : Else-is_unfit → Tables
+found c = let a = c.args in tables a.values.now a.words.now a.seats.now
+
+not-unfit : (c : Else-is_unfit) → let a = c.args in unfit_for a.buf.now a.from a.to a.k (found c) a.out.now ≡ false
+not-unfit c = sym c.is_unfit.ensures ∙ c.if-is_unfit.false
+
+fitting : (c : Else-is_unfit) → let a = c.args in
+    Fit (length a.buf.now) a.from a.to a.k (length a.values.now) (length a.words.now) (length a.out.now)
+fitting c = fit (not-unfit c)
+
+part_length : (c : Else-is_unfit) → let a = c.args in length (part a.buf.now a.from a.to) ≡ a.to - a.from
+part_length c =
+    let a = c.args in
+    let g = fitting c in
+    length-take-le (a.to - a.from) (drop a.from a.buf.now) (omega (arith, g.inside, length-drop a.from a.buf.now))
+
+-- what feed took lies within the part
+abbrev fine-at : After-feed-r → tie.Else1
+fine-at c = search
+
+used-within : (c : After-feed-r) → let a = (start (fine-at c)).args in c.feed-r.result.used ≤ a.to - a.from
+used-within c = omega (arith, c.feed-r.ensures.used, part_length (fine-at c))
+
+pub slice_bounds-feed-count : goal.slice_bounds-feed-count
+slice_bounds-feed-count c = omega (arith, (fitting (goal.at.slice_bounds-feed-count c).Else-is_unfit).behind)
+
+pub slice_bounds-feed-start : goal.slice_bounds-feed-start
+slice_bounds-feed-start c = omega (arith, (fitting (goal.at.slice_bounds-feed-start c).Else-is_unfit).behind)
+
+pub slice_bounds-feed-end : goal.slice_bounds-feed-end
+slice_bounds-feed-end c = omega (arith, (fitting (goal.at.slice_bounds-feed-end c).Else-is_unfit).inside)
+
+pub feed-r-requires : goal.feed-r-requires
+feed-r-requires c =
+    let g = fitting (goal.at.feed-r-requires c).Else-is_unfit in
+    let n = part_length (goal.at.feed-r-requires c).Else-is_unfit in
+    record { offset = omega (arith, g.offset, g.roomy, c.good); calls = omega (arith, g.calls, g.roomy, c.good) }
+
+pub shift-requires : goal.shift-requires
+shift-requires c =
+    record { behind = omega (arith, used-within (goal.at.shift-requires c).After-feed-r, (fitting (goal.at.shift-requires c).Else-is_unfit).behind); inside = (fitting (goal.at.shift-requires c).Else-is_unfit).inside }
+
+pub overflow_sub-result : goal.overflow_sub-result
+overflow_sub-result c =
+    omega (arith, used-within (goal.at.overflow_sub-result c).After-feed-r, (fitting (goal.at.overflow_sub-result c).Else-is_unfit).behind)
+
+pub overflow_add-result : goal.overflow_add-result
+overflow_add-result c =
+    omega (arith, used-within (goal.at.overflow_add-result c).After-feed-r, (fitting (goal.at.overflow_add-result c).Else-is_unfit).offset, (fitting (goal.at.overflow_add-result c).Else-is_unfit).roomy, c.good)
+
+pub returns : goal.returns
+returns c =
+    let a = c.args in
+    let g = fitting (goal.at.returns c).Else-is_unfit in
+    let p = part a.buf.now a.from a.to in
+    let s = state_of a.k (found (goal.at.returns c).Else-is_unfit) in
+    let ran = c.feed-r.ensures in
+    let roomy = text_room (length p) s p (le_refl (length p)) in
+    let left =
+    took a.buf.now a.out.now a.from a.to a.k _ c.feed-r.result _ _ ran g.behind g.inside _ c.shift.ensures
+    (omega (arith, roomy, part_length (goal.at.returns c).Else-is_unfit, g.roomy)) (omega (arith, c.good)) in
+    record {
+      done = λ _. record { answer_is = left.answer_is; buffer_is = left.buffer_is; tables_are = left.tables_are; out_is = left.out_is };
+      refused = λ e. absurd (true≢false (sym e ∙ not-unfit (goal.at.returns c).Else-is_unfit));
+      short = λ e.
+          waits_few a.buf.now a.out.now a.from a.to a.k _ c.feed-r.result _ _ ran g.behind g.inside
+          (λ i. omega (arith, c.slice_known-1.given i)) ((grown (length p) s p (le_refl (length p))).wanting (sym ran.stopped ∙ e));
+    }
