@@ -62,7 +62,7 @@ pub feed-r-requires : goal.feed-r-requires
 feed-r-requires c =
     let g = fitting (goal.at.feed-r-requires c).Else-is_unfit in
     let n = part_length (goal.at.feed-r-requires c).Else-is_unfit in
-    record { offset = omega (arith, g.offset, g.roomy, c.good); calls = omega (arith, g.calls, g.roomy, c.good) }
+    record { offset = omega (arith, g.offset, g.roomy, c.well_formed); calls = omega (arith, g.calls, g.roomy, c.well_formed) }
 
 pub shift-requires : goal.shift-requires
 shift-requires c =
@@ -74,7 +74,7 @@ overflow_sub-result c =
 
 pub overflow_add-result : goal.overflow_add-result
 overflow_add-result c =
-    omega (arith, used-within (goal.at.overflow_add-result c).After-feed-r, (fitting (goal.at.overflow_add-result c).Else-is_unfit).offset, (fitting (goal.at.overflow_add-result c).Else-is_unfit).roomy, c.good)
+    omega (arith, used-within (goal.at.overflow_add-result c).After-feed-r, (fitting (goal.at.overflow_add-result c).Else-is_unfit).offset, (fitting (goal.at.overflow_add-result c).Else-is_unfit).roomy, c.well_formed)
 
 pub returns : goal.returns
 returns c =
@@ -86,7 +86,7 @@ returns c =
     let roomy = text_room (length p) s p (le_refl (length p)) in
     let left =
     took a.buf.now a.out.now a.from a.to a.k _ c.feed-r.result _ _ ran g.behind g.inside _ c.shift.ensures
-    (omega (arith, roomy, part_length (goal.at.returns c).Else-is_unfit, g.roomy)) (omega (arith, c.good)) in
+    (omega (arith, roomy, part_length (goal.at.returns c).Else-is_unfit, g.roomy)) (omega (arith, c.well_formed)) in
     record {
       done = λ _. record { answer_is = left.answer_is; buffer_is = left.buffer_is; tables_are = left.tables_are; out_is = left.out_is };
       refused = λ e. absurd (true≢false (sym e ∙ not-unfit (goal.at.returns c).Else-is_unfit));

@@ -14,7 +14,7 @@ short c = omega (arith, c.well-formed)
 
 pub feed-r-requires : goal.feed-r-requires
 feed-r-requires c =
-    record { offset = omega (arith, c.good); calls = omega (arith, c.good) }
+    record { offset = omega (arith, c.well_formed); calls = omega (arith, c.well_formed) }
 
 -- stopped by a call
 pub returns-then-r : goal.returns-then-r

@@ -22,7 +22,7 @@ loop-i-preserved c =
     record {
       within = search rules;
       as_long = simp length-set (omega arith);
-      pasted = ap (λ (b : List ℕ). set b L.i (get_or b (a.from + L.i) 0)) L.inv.pasted ∙ shift_step a.buf.now a.from L.i (omega arith);
+      pasted = ap (λ (b : List ℕ). set b L.i (get_or b (a.from + L.i) 0)) L.invariant.pasted ∙ shift_step a.buf.now a.from L.i (omega arith);
     }
 
 pub returns : goal.returns

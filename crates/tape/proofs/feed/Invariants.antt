@@ -1,0 +1,33 @@
+use Prim.Native.Nat.{ℕ, ◌+◌, ◌-◌, ◌≤◌, ◌<◌}
+use native.Mathlib.Omega.{arith}
+use native.Mathlib.Nat.{sub_self, sub-zero, add-zero, add_assoc}
+use mathlib.Core.Path.{◌≡◌, refl}
+use mathlib.Core.List.{List}
+use borrow.Author.Rules.{rules}
+use lib.ListN.{length, drop, length-drop}
+use lib.Seq.{take_all, drop-drop}
+use Rattle.rules.specs.Tables.{Tables, tables}
+use Rattle.turns.specs.Promises.{Taken}
+use Rattle.tape.specs.Lines.{State, turn_from, Fed, fed}
+use Rattle.text.specs.Text.{greatest}
+use Rattle.tape.specs.Inner.{state_of}
+use Rattle.tape.proofs.Running.{Going, going_start, Onward, taken_as, said, ran_waits, ran_stops, ran_all}
+use Rattle.tape.proofs.feed.Given as goal
+
+-- WHAT HOLDS WHERE A TURN IS TO COME, of a run over `part` that began at s₀ and stands at s
+pub record Stands (part : List ℕ) (s₀ : State) (out₀ : List ℕ) (from : ℕ) (s : State) (out : List ℕ) (used end : ℕ) : Type 0 where
+  pub within : used ≤ length part
+  pub counted : s₀.calls ≤ s.calls
+  pub few : s.calls - s₀.calls ≤ used
+  pub values : length s.tables.values ≡ length s₀.tables.values
+  pub words : length s.tables.words ≡ length s₀.tables.words
+  pub seats : length s.tables.seats ≡ length s₀.tables.seats
+  pub small : end ≤ greatest
+  pub going : Going (fed (length part) s₀ part) out₀ from (fed (length part - (s.calls - s₀.calls)) s (drop used part)) out end
+
+abbrev pub invariant-loop-used : goal.invariant-loop-used
+invariant-loop-used l = Stands l.part (at_state l.initial.calls l.base l.initial.records (tables l.initial.values l.initial.words l.initial.seats)) l.initial.out l.from
+    (at_state l.calls (l.base + l.used) l.records (tables l.values l.words l.seats)) l.out l.used l.end
+
+abbrev pub decreases-loop-used : goal.decreases-loop-used
+decreases-loop-used l = length l.part - l.used
