@@ -43,53 +43,64 @@ part_length c =
     length-take-le (a.to - a.from) (drop a.from a.buf.now) (omega (arith, g.inside, length-drop a.from a.buf.now))
 
 -- what feed took lies within the part
-abbrev fine-at : After-feed-r → tie.Else1
-fine-at c = search
-
-used-within : (c : After-feed-r) → let a = (start (fine-at c)).args in c.feed-r.result.used ≤ a.to - a.from
-used-within c = omega (arith, c.feed-r.ensures.used, part_length (fine-at c))
+used_within : (c : After-feed-r) → let a = c.args in length (part a.buf.now a.from a.to) ≡ a.to - a.from → c.feed-r.result.used ≤ a.to - a.from
+used_within c whole = omega (arith, c.feed-r.ensures.used, whole)
 
 pub slice_bounds-feed-count : goal.slice_bounds-feed-count
-slice_bounds-feed-count c = omega (arith, (fitting (goal.at.slice_bounds-feed-count c).Else-is_unfit).behind)
+slice_bounds-feed-count c =
+    let fine = (goal.at.slice_bounds-feed-count c).Else-is_unfit in
+    omega (arith, (fitting fine).behind)
 
 pub slice_bounds-feed-start : goal.slice_bounds-feed-start
-slice_bounds-feed-start c = omega (arith, (fitting (goal.at.slice_bounds-feed-start c).Else-is_unfit).behind)
+slice_bounds-feed-start c =
+    let fine = (goal.at.slice_bounds-feed-start c).Else-is_unfit in
+    omega (arith, (fitting fine).behind)
 
 pub slice_bounds-feed-end : goal.slice_bounds-feed-end
-slice_bounds-feed-end c = omega (arith, (fitting (goal.at.slice_bounds-feed-end c).Else-is_unfit).inside)
+slice_bounds-feed-end c =
+    let fine = (goal.at.slice_bounds-feed-end c).Else-is_unfit in
+    omega (arith, (fitting fine).inside)
 
 pub feed-r-requires : goal.feed-r-requires
 feed-r-requires c =
-    let g = fitting (goal.at.feed-r-requires c).Else-is_unfit in
-    let n = part_length (goal.at.feed-r-requires c).Else-is_unfit in
+    let fine = (goal.at.feed-r-requires c).Else-is_unfit in
+    let g = fitting fine in
+    let n = part_length fine in
     record { offset = omega (arith, g.offset, g.roomy, c.well_formed); calls = omega (arith, g.calls, g.roomy, c.well_formed) }
 
 pub shift-requires : goal.shift-requires
 shift-requires c =
-    record { behind = omega (arith, used-within (goal.at.shift-requires c).After-feed-r, (fitting (goal.at.shift-requires c).Else-is_unfit).behind); inside = (fitting (goal.at.shift-requires c).Else-is_unfit).inside }
+    let at_feed = (goal.at.shift-requires c).After-feed-r in
+    let fine = (goal.at.shift-requires c).Else-is_unfit in
+    record { behind = omega (arith, used_within at_feed (part_length fine), (fitting fine).behind); inside = (fitting fine).inside }
 
 pub overflow_sub-result : goal.overflow_sub-result
 overflow_sub-result c =
-    omega (arith, used-within (goal.at.overflow_sub-result c).After-feed-r, (fitting (goal.at.overflow_sub-result c).Else-is_unfit).behind)
+    let at_feed = (goal.at.overflow_sub-result c).After-feed-r in
+    let fine = (goal.at.overflow_sub-result c).Else-is_unfit in
+    omega (arith, used_within at_feed (part_length fine), (fitting fine).behind)
 
 pub overflow_add-result : goal.overflow_add-result
 overflow_add-result c =
-    omega (arith, used-within (goal.at.overflow_add-result c).After-feed-r, (fitting (goal.at.overflow_add-result c).Else-is_unfit).offset, (fitting (goal.at.overflow_add-result c).Else-is_unfit).roomy, c.well_formed)
+    let at_feed = (goal.at.overflow_add-result c).After-feed-r in
+    let fine = (goal.at.overflow_add-result c).Else-is_unfit in
+    omega (arith, used_within at_feed (part_length fine), (fitting fine).offset, (fitting fine).roomy, c.well_formed)
 
 pub returns : goal.returns
 returns c =
+    let fine = (goal.at.returns c).Else-is_unfit in
     let a = c.args in
-    let g = fitting (goal.at.returns c).Else-is_unfit in
+    let g = fitting fine in
     let p = part a.buf.now a.from a.to in
-    let s = state_of a.k (found (goal.at.returns c).Else-is_unfit) in
+    let s = state_of a.k (found fine) in
     let ran = c.feed-r.ensures in
     let roomy = text_room (length p) s p (le_refl (length p)) in
     let left =
     took a.buf.now a.out.now a.from a.to a.k _ c.feed-r.result _ _ ran g.behind g.inside _ c.shift.ensures
-    (omega (arith, roomy, part_length (goal.at.returns c).Else-is_unfit, g.roomy)) (omega (arith, c.well_formed)) in
+    (omega (arith, roomy, part_length fine, g.roomy)) (omega (arith, c.well_formed)) in
     record {
       done = λ _. record { answer_is = left.answer_is; buffer_is = left.buffer_is; tables_are = left.tables_are; out_is = left.out_is };
-      refused = λ e. absurd (true≢false (sym e ∙ not-unfit (goal.at.returns c).Else-is_unfit));
+      refused = λ e. absurd (true≢false (sym e ∙ not-unfit fine));
       short = λ e.
           waits_few a.buf.now a.out.now a.from a.to a.k _ c.feed-r.result _ _ ran g.behind g.inside
           (λ i. omega (arith, c.slice_known-1.given i)) ((grown (length p) s p (le_refl (length p))).wanting (sym ran.stopped ∙ e));

@@ -10,7 +10,7 @@ use Rattle.tape.proofs.calls.Goals as goal
 use Rattle.tape.proofs.calls.Goals.{After-feed-r}
 
 short : (c : After-feed-r) → length c.args.out.now < greatest
-short c = omega (arith, c.well-formed)
+short c = omega (arith, c.well_formed)
 
 pub feed-r-requires : goal.feed-r-requires
 feed-r-requires c =

@@ -9,16 +9,14 @@ use lib.ListN.{length, drop, length-drop}
 use lib.Seq.{take_all, drop-drop}
 use Rattle.rules.specs.Tables.{Tables, tables}
 use Rattle.turns.specs.Promises.{Taken}
+use Rattle.turns.specs.declared.Turn.TheVariants.{Said}
 use Rattle.tape.specs.Lines.{State, turn_from, Fed, fed}
 use Rattle.text.specs.Text.{greatest}
 use Rattle.tape.specs.Inner.{state_of}
 use Rattle.tape.proofs.Running.{Going, going_start, Onward, taken_as, said, ran_waits, ran_stops, ran_all}
 use Rattle.tape.proofs.feed.Goals as goal
-use Rattle.tape.proofs.feed.Invariants.{Stands}
-use Rattle.tape.proofs.feed.Goals.{After-take_turn-t, In-Said-2}
-
-abbrev at_state : ℕ → ℕ → ℕ → Tables → State
-at_state calls offset records t = record { calls = calls; offset = offset; records = records; tables = t }
+use Rattle.tape.proofs.feed.Invariants.{Stands, at_state}
+use Rattle.tape.proofs.feed.Goals.{After-take_turn-t}
 
 pub loop-used-init : goal.loop-used-init
 loop-used-init c =
@@ -29,80 +27,73 @@ loop-used-init c =
       values = refl;
       words = refl;
       seats = refl;
-      small = omega (arith, c.fits.from);
+      small = omega (arith, c.ranges.from);
       going = rw (sub_self, sub-zero, add-zero) (going_start _ _ _);
     }
 
-abbrev loop-of : After-take_turn-t → tie.At-loop invariant-loop decreases-loop
-loop-of c = search
-
-abbrev part_of : After-take_turn-t → List ℕ
-part_of c = (start_of c).args.part.now
-
+-- A TURN: where it began, and what it left
 abbrev rest_of : After-take_turn-t → List ℕ
-rest_of c = drop (loop-of c).loop.used (part_of c)
+rest_of k = drop k.loop-used.used k.args.part.now
 
-abbrev state_of_lem : After-take_turn-t → State
-state_of_lem c =
-    let L = (loop-of c).loop in
-    at_state L.calls ((start_of c).args.k.offset + L.used) L.records (tables L.values L.words L.seats)
+abbrev state_here : After-take_turn-t → State
+state_here k =
+    let L = k.loop-used in
+    at_state L.calls (k.args.k.offset + L.used) L.records (tables L.values L.words L.seats)
 
 abbrev whole_of : After-take_turn-t → Fed
-whole_of c =
-    let a = (start_of c).args in
-    fed (length (part_of c)) (state_of a.k (tables a.values.now a.words.now a.seats.now)) (part_of c)
+whole_of k =
+    let a = k.args in
+    fed (length a.part.now) (state_of a.k (tables a.values.now a.words.now a.seats.now)) a.part.now
 
 abbrev turns_left : After-take_turn-t → ℕ
-turns_left c = length (part_of c) - ((loop-of c).loop.calls - (start_of c).args.k.calls)
+turns_left k = length k.args.part.now - (k.loop-used.calls - k.args.k.calls)
 
 abbrev tables_after : After-take_turn-t → Tables
-tables_after c = let l = c.take_turn-t.new.out in tables l.0 l.1.0 l.1.1.0
+tables_after k = let l = k.take_turn-t.new in tables l.values l.words l.seats
 
-abbrev out_after : After-take_turn-t → List ℕ
-out_after c = let l = c.take_turn-t.new.out in l.1.1.1.0
+taken : (k : After-take_turn-t) → let L = k.loop-used in
+    Taken (turn_from (state_here k) (rest_of k)) (state_here k).tables L.out L.end k.take_turn-t.result (tables_after k) k.take_turn-t.new.out
+taken k =
+    let L = k.loop-used in
+    let n : ℕ = length k.args.part.now - L.used in
+    rw (take_all n (rest_of k) (omega (arith, length-drop L.used k.args.part.now))) at k.take_turn-t.ensures
 
-taken : (c : After-take_turn-t) → let L = (loop-of c).loop in
-    Taken (turn_from (state_of_lem c) (rest_of c)) (state_of_lem c).tables L.out L.end c.take_turn-t.result (tables_after c) (out_after c)
-taken c =
-    let n : ℕ = length (part_of c) - (loop-of c).loop.used in
-    rw (take_all n (rest_of c) (omega (arith, length-drop (loop-of c).loop.used (part_of c)))) at c.take_turn-t.ensures
+enough : (k : After-take_turn-t) → length (rest_of k) ≤ turns_left k
+enough k = let L = k.loop-used in omega (arith, L.invariant.few, L.invariant.within, length-drop L.used k.args.part.now)
 
-enough : (c : After-take_turn-t) → length (rest_of c) ≤ turns_left c
-enough c = let L = (loop-of c).loop in omega (arith, L.invariant.few, L.invariant.within, length-drop L.used (part_of c))
-
-short : (c : After-take_turn-t) → length (start_of c).args.out.now < greatest
-short c = omega (arith, (start_of c).well-formed)
+short : (k : After-take_turn-t) → length k.args.out.now < greatest
+short k = omega (arith, k.well_formed)
 
 -- more bytes are wanted
 pub returns-in-Wait : goal.returns-in-Wait
 returns-in-Wait c =
-    let inv = (loop-of (goal.at.returns-in-Wait c).After-take_turn-t).loop.invariant in
+    let k = (goal.at.returns-in-Wait c).After-take_turn-t in
+    let inv = c.loop-used.invariant in
     rw c.so_far.ensures
-    (ran_waits (whole_of (goal.at.returns-in-Wait c).After-take_turn-t) (part_of (goal.at.returns-in-Wait c).After-take_turn-t) _ _ _ (turns_left (goal.at.returns-in-Wait c).After-take_turn-t) _ (state_of_lem (goal.at.returns-in-Wait c).After-take_turn-t) _ _ _ _
-    (enough (goal.at.returns-in-Wait c).After-take_turn-t) (short (goal.at.returns-in-Wait c).After-take_turn-t) inv.small inv.within refl inv.going (taken_as c.in-Wait.is (taken (goal.at.returns-in-Wait c).After-take_turn-t)))
+    (ran_waits (whole_of k) k.args.part.now _ _ _ (turns_left k) _ (state_here k) _ _ _ _
+    (enough k) (short k) inv.small inv.within refl inv.going (taken_as c.in-Wait.is (taken k)))
 
 -- the tape is stopped
 pub returns-in-Stop : goal.returns-in-Stop
 returns-in-Stop c =
-    let inv = (loop-of (goal.at.returns-in-Stop c).After-take_turn-t).loop.invariant in
+    let k = (goal.at.returns-in-Stop c).After-take_turn-t in
+    let inv = c.loop-used.invariant in
     rw c.so_far-in-Stop.ensures
-    (ran_stops (whole_of (goal.at.returns-in-Stop c).After-take_turn-t) (part_of (goal.at.returns-in-Stop c).After-take_turn-t) _ _ _ (turns_left (goal.at.returns-in-Stop c).After-take_turn-t) _ (state_of_lem (goal.at.returns-in-Stop c).After-take_turn-t) _ _ _ _
-    (enough (goal.at.returns-in-Stop c).After-take_turn-t) (short (goal.at.returns-in-Stop c).After-take_turn-t) inv.small inv.within refl inv.going _ _ (taken_as c.in-Stop.is (taken (goal.at.returns-in-Stop c).After-take_turn-t)) c.sum.ensures)
+    (ran_stops (whole_of k) k.args.part.now _ _ _ (turns_left k) _ (state_here k) _ _ _ _
+    (enough k) (short k) inv.small inv.within refl inv.going _ _ (taken_as c.in-Stop.is (taken k)) c.sum.ensures)
 
-abbrev turn_of_lem : In-Said-2 → tie.After-take-turn invariant-loop decreases-loop
-turn_of_lem c = search
-
-onward : (c : In-Said-2) → let k = turn_of_lem c in let d = c.t-in-Said-1.given.0 in
-    Onward (whole_of k) (start_of k).args.out.now (start_of k).args.from (turns_left k) (state_of_lem k) (rest_of k) d.0 d.1.0 d.1.1.0
-    (loop-of k).loop.end (tables_after k) (out_after k)
-onward c =
-    let k = turn_of_lem c in
-    said _ _ _ _ (state_of_lem k) _ _ _ _ _ _ _ _ (enough k) (short k) (loop-of k).loop.invariant.going (taken_as c.in-Said.is (taken k))
+-- A LINE WAS SAID
+onward : (k : After-take_turn-t) (took len lent : ℕ) → k.take_turn-t.result ≡ Said took len lent →
+    Onward (whole_of k) k.args.out.now k.args.from (turns_left k) (state_here k) (rest_of k) took len lent
+    k.loop-used.end (tables_after k) k.take_turn-t.new.out
+onward k took len lent e =
+    said _ _ _ _ (state_here k) _ _ _ _ _ _ _ _ (enough k) (short k) k.loop-used.invariant.going (taken_as e (taken k))
 
 pub overflow_add-used : goal.overflow_add-used
 overflow_add-used c =
-    let k = turn_of_lem (goal.at.overflow_add-used c).In-Said-2 in
-    omega (arith, (onward (goal.at.overflow_add-used c).In-Said-2).within, length-drop (loop-of k).loop.used (part_of k), (loop-of k).loop.invariant.within, (start_of k).good)
+    let k = (goal.at.overflow_add-used c).After-take_turn-t in
+    let s = onward k _ _ _ c.in-Said.is in
+    omega (arith, s.within, length-drop c.loop-used.used c.args.part.now, c.loop-used.invariant.within, c.well_formed)
 
 pub overflow_add-calls : goal.overflow_add-calls
 overflow_add-calls c =
@@ -114,24 +105,27 @@ overflow_add-at c =
 
 pub overflow_add-calls-in-Said : goal.overflow_add-calls-in-Said
 overflow_add-calls-in-Said c =
-    let k = turn_of_lem (goal.at.overflow_add-calls-in-Said c).In-Said-2 in
-    let inv = (loop-of k).loop.invariant in
-    omega (arith, (start_of k).pre.calls, inv.few, inv.counted, inv.within, (onward (goal.at.overflow_add-calls-in-Said c).In-Said-2).within, (onward (goal.at.overflow_add-calls-in-Said c).In-Said-2).least)
+    let k = (goal.at.overflow_add-calls-in-Said c).After-take_turn-t in
+    let s = onward k _ _ _ c.in-Said.is in
+    let inv = c.loop-used.invariant in
+    omega (arith, c.requires.calls, inv.few, inv.counted, inv.within, s.within, s.least)
 
 pub loop-used-smaller : goal.loop-used-smaller
 loop-used-smaller c =
-    let k = turn_of_lem (goal.at.loop-used-smaller c).In-Said-2 in
-    omega (arith, (onward (goal.at.loop-used-smaller c).In-Said-2).within, (onward (goal.at.loop-used-smaller c).In-Said-2).least, length-drop (loop-of k).loop.used (part_of k))
+    let k = (goal.at.loop-used-smaller c).After-take_turn-t in
+    let s = onward k _ _ _ c.in-Said.is in
+    omega (arith, s.within, s.least, length-drop c.loop-used.used c.args.part.now)
 
 pub loop-used-preserved : goal.loop-used-preserved
 loop-used-preserved c =
-    let k = turn_of_lem (goal.at.loop-used-preserved c).In-Said-2 in
-    let L = (loop-of k).loop in
+    let k = (goal.at.loop-used-preserved c).After-take_turn-t in
+    let part = c.args.part.now in
+    let L = c.loop-used in
     let inv = L.invariant in
-    let k₀ = (start_of k).args.k in
-    let s = onward (goal.at.loop-used-preserved c).In-Said-2 in
-    let h = length-drop L.used (part_of k) in
-    let e : turns_left k - 1 ≡ length (part_of k) - (L.calls + 1 - k₀.calls) = omega (arith, inv.counted) in
+    let k₀ = c.args.k in
+    let s = onward k _ _ _ c.in-Said.is in
+    let h = length-drop L.used part in
+    let e : turns_left k - 1 ≡ length part - (L.calls + 1 - k₀.calls) = omega (arith, inv.counted) in
     record {
       within = omega (arith, s.within, h);
       counted = omega (arith, inv.counted);
@@ -139,8 +133,8 @@ loop-used-preserved c =
       values = search rules;
       words = search rules;
       seats = search rules;
-      small = omega (arith, c.sum-end.type-inv);
-      going = rw c.sum-end.ensures (rw (e, add_assoc k₀.offset L.used _, drop-drop _ L.used (part_of k)) at s.going);
+      small = omega (arith, c.sum-end.type_inv);
+      going = rw c.sum-end.ensures (rw (e, add_assoc k₀.offset L.used _, drop-drop _ L.used part) at s.going);
     }
 
 -- THE END OF THE PART

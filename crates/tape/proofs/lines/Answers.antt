@@ -9,6 +9,7 @@ use borrow.Author.Rules.{rules}
 use Rattle.tape.specs.Lines.{version, first_offset}
 use Rattle.tape.proofs.Wholes.{lines_one, no_byte, lines_bad}
 use Rattle.tape.proofs.lines.Goals as goal
+use Rattle.tape.proofs.lines.Goals.{else-tape-gt0, then-tape-gt0+else-tape-eq-VERSION}
 
 -- a version byte 1
 pub returns-then-tape-eq-VERSION : goal.returns-then-tape-eq-VERSION
@@ -21,5 +22,9 @@ returns-then-tape-eq-VERSION c =
 pub returns : goal.returns
 returns c =
     let t = c.args.tape.now in
-    let bad : get_or t 0 0 ≡ version → ⊥ = ⊎_elim (λ w. w.2.left) (λ w. no_byte t w.left) c.if-tape-gt0.came in
-    lines_bad t c.args.out.now _ _ bad (omega (arith, c.stop.ok)) c.stop.ensures
+    let bad : get_or t 0 0 ≡ version → ⊥ =
+        elim c.if-tape-gt0.branch [
+          | then-tape-gt0+else-tape-eq-VERSION w ↦ w.if-tape-eq-VERSION.false
+          | else-tape-gt0 w ↦ no_byte t w.if-tape-gt0.false
+        ] in
+    lines_bad t c.args.out.now _ _ bad (omega (arith, c.stop.type_inv)) c.stop.ensures

@@ -14,7 +14,7 @@ nothing_put : (c : After-lines-n) → c.lines-n.new.out ≡ []
 nothing_put c = nothing_of _ (omega arith)
 
 short : (c : After-lines-n) → length c.args.out.now < greatest
-short c = omega (arith, c.well-formed)
+short c = omega (arith, c.well_formed)
 
 pub returns-then-n-out : goal.returns-then-n-out
 returns-then-n-out c =

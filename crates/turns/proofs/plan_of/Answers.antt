@@ -16,7 +16,7 @@ pub loop-i-init : goal.loop-i-init
 loop-i-init c = record { within = search rules; as_long = refl; same = refl }
 
 pub overflow_cast-plan : goal.overflow_cast-plan
-overflow_cast-plan c = omega (arith, c.shared_slice_known-1.given (plan_from + c.loop-i.i))
+overflow_cast-plan c = omega (arith, c.type_inv.b (plan_from + c.loop-i.i))
 
 pub loop-i-preserved : goal.loop-i-preserved
 loop-i-preserved c =
