@@ -7,7 +7,9 @@ ghost use Rattle.monitor.specs.Program.{output_length, Buffers, Fetched, Asked, 
 
 use flow::Flow;
 use frames::LONGEST;
-use libc::{EAGAIN, EINTR, STDERR_FILENO, STDIN_FILENO, STDOUT_FILENO};
+use std::env::{Env, FillError};
+use std::io::{ErrorKind, Read, Write};
+use std::{io, thread};
 use tape::FAR_OFF;
 use turns::{LAST_ROOM, LINE_ROOM};
 
@@ -28,46 +30,43 @@ struct Moved {
 }
 
 // What goes wrong with the tape's bytes is told apart from the tape's lines.
-fn complain(line: &[u8]) {
-    io::write_all(STDERR_FILENO, line);
+fn complain(rt: &HostRuntime, line: &[u8]) {
+    let _ = rt.stderr().write_all(line);
 }
 
 // Whether a read or a write that has just failed is to be made again: a signal came in between, or nothing was ready yet. Then others run first.
-fn may_try_again() -> bool {
-    let error = os::errno();
-    if error == EINTR {
-        return true;
+fn may_try_again(error: io::Error) -> bool {
+    match error.kind() {
+        ErrorKind::Interrupted => true,
+        ErrorKind::WouldBlock => {
+            thread::yield_now();
+            true
+        }
+        _ => false,
     }
-    if error != EAGAIN {
-        return false;
-    }
-    libc::sched_yield();
-    true
 }
 
 // Writes the bytes of out from `from` to `end` once, and answers how far it came, and whether it failed for good.
-fn write_once(out: &[u8], from: usize, end: usize) -> Moved
+fn write_once(rt: &HostRuntime, out: &[u8], from: usize, end: usize) -> Moved
     requires from_le_end { from ≤ end }
     requires end_in_bounds { end ≤ length out.now }
     ensures from_le_to { from ≤ result.to }
     ensures to_le_end { result.to ≤ end }
 {
-    let wrote = libc::write(STDOUT_FILENO, &out[from..end]);
-    if wrote < 0 {
-        return Moved {
+    match rt.stdout().write(&out[from..end]) {
+        Ok(n) => Moved {
+            to: from + n,
+            failed: n == 0,
+        },
+        Err(error) => Moved {
             to: from,
-            failed: !may_try_again(),
-        };
-    }
-    let n = io::count(wrote, &out[from..end]);
-    Moved {
-        to: from + n,
-        failed: n == 0,
+            failed: !may_try_again(error),
+        },
     }
 }
 
 // Writes the first `end` bytes of out, and answers whether they could be written.
-fn put(out: &[u8], end: usize) -> bool
+fn put(rt: &HostRuntime, out: &[u8], end: usize) -> bool
     requires { end ≤ length out.now }
 {
     let mut done = 0;
@@ -76,34 +75,36 @@ fn put(out: &[u8], end: usize) -> bool
         if done == end {
             return true;
         }
-        let output = write_once(out, done, end);
+        let output = write_once(rt, out, done, end);
         if output.failed {
             break;
         }
         done = output.to;
         tries -= 1;
     }
-    complain(b"monitor: the lines can't be written\n");
+    complain(rt, b"monitor: the lines can't be written\n");
     false
 }
 
 // Reads behind the bytes that wait, which stay. There is room, so that no bytes are the end of the input.
-fn fetch(buf: &mut [u8], waiting: usize) -> Moved
+fn fetch(rt: &HostRuntime, buf: &mut [u8], waiting: usize) -> Moved
     requires { waiting < length buf.old }
     ensures { Fetched buf.old waiting result buf.new }
 {
     let mut tries = TURNS;
     while tries > 0 {
-        let got = libc::read(STDIN_FILENO, &mut buf[waiting..]);
-        if got >= 0 {
-            let n = io::count(got, &buf[waiting..]);
-            return Moved {
-                to: waiting + n,
-                failed: false,
-            };
-        }
-        if !may_try_again() {
-            break;
+        match rt.stdin().read(&mut buf[waiting..]) {
+            Ok(n) => {
+                return Moved {
+                    to: waiting + n,
+                    failed: false,
+                };
+            }
+            Err(error) => {
+                if !may_try_again(error) {
+                    break;
+                }
+            }
         }
         tries -= 1;
     }
@@ -139,26 +140,33 @@ fn close(f: Flow, out: &mut [u8]) -> usize
 }
 
 // Reads, hands on what was read, and writes what is given, to the end of the tape.
-fn play(buf: &mut [u8], values: &mut [u64], words: &mut [u64], seats: &mut [u64], out: &mut [u8])
+fn play(
+    rt: &HostRuntime,
+    buf: &mut [u8],
+    values: &mut [u64],
+    words: &mut [u64],
+    seats: &mut [u64],
+    out: &mut [u8],
+)
     requires { Buffers buf.old (lent_now values.old words.old seats.old) out.old }
 {
     let mut f = flow::start();
     let mut turns = TURNS;
     while turns > 0 {
         let waiting = f.waiting;
-        let input = fetch(buf, waiting);
+        let input = fetch(rt, buf, waiting);
         if input.failed {
-            complain(b"monitor: the tape can't be read\n");
+            complain(rt, b"monitor: the tape can't be read\n");
             return;
         }
         let to = input.to;
         if to == waiting {
             let end = close(f, out);
-            put(out, end);
+            put(rt, out, end);
             return;
         }
         f = pump(f, buf, to, values, words, seats, out);
-        if !put(out, f.end) {
+        if !put(rt, out, f.end) {
             return;
         }
         if f.stopped {
@@ -166,7 +174,7 @@ fn play(buf: &mut [u8], values: &mut [u64], words: &mut [u64], seats: &mut [u64]
         }
         turns -= 1;
     }
-    complain(b"monitor: the tape is too long\n");
+    complain(rt, b"monitor: the tape is too long\n");
 }
 
 // The buffers say their own lengths; that these are the lengths that `play` asks for is shown where it is called.
@@ -196,45 +204,54 @@ fn is_same(a: &[u8], b: &[u8]) -> bool {
     i == b.len()
 }
 
-fn say(line: &[u8]) {
-    io::write_all(STDOUT_FILENO, line);
+fn say(rt: &HostRuntime, line: &[u8]) {
+    let _ = rt.stdout().write_all(line);
 }
 
-fn tell_usage() {
-    say(b"usage: monitor < TAPE\n");
-    say(b"Plays a tape of calls, and prints a line to each: its number, a word, a number.\n");
-    say(b"The last line is 'end' and the number of calls, or 'stopped', the fault and its byte.\n");
-    say(b"A text tape is made into a tape by the program tape: tape encode my.txt | monitor\n");
-    say(b"The stack must have a megabyte.\n");
+fn tell_usage(rt: &HostRuntime) {
+    say(rt, b"usage: monitor < TAPE\n");
+    say(
+        rt,
+        b"Plays a tape of calls, and prints a line to each: its number, a word, a number.\n",
+    );
+    say(
+        rt,
+        b"The last line is 'end' and the number of calls, or 'stopped', the fault and its byte.\n",
+    );
+    say(
+        rt,
+        b"A text tape is made into a tape by the program tape: tape encode my.txt | monitor\n",
+    );
+    say(rt, b"The stack must have a megabyte.\n");
 }
 
-// There is no argument to take but the one that asks how the program is used.
-fn answer_arguments() {
-    let mut word = [0u8; 8];
-    let n = os::arg(1, &mut word);
-    if is_same(&word[..n], b"--help") {
-        tell_usage();
+// There is no argument to take but the one that asks how the program is used. Its first bytes tell it.
+fn answer_arguments(rt: &HostRuntime, word: &[u8]) {
+    if is_same(word, b"--help") {
+        tell_usage(rt);
     } else {
         complain(
+            rt,
             b"monitor: it takes no arguments, only a tape on standard input; monitor --help tells more\n",
         );
     }
 }
 
 // The tables and buffers are made, lent and played with.
-fn play_input() {
+fn play_input(rt: &HostRuntime) {
     let mut buf = input_buffer();
     let mut values = [0u64; tape::RECORDS];
     let mut words = [0u64; tape::RECORDS];
     let mut seats = [0u64; tape::SEATS];
     let mut out = output_buffer();
-    play(&mut buf, &mut values, &mut words, &mut seats, &mut out);
+    play(rt, &mut buf, &mut values, &mut words, &mut seats, &mut out);
 }
 
-fn main() {
-    if os::arg_count() > 1 {
-        answer_arguments();
-        return;
+fn main(rt: HostRuntime) {
+    let mut word = [0u8; 8];
+    match rt.arg(1, &mut word) {
+        Ok(n) => answer_arguments(&rt, &word[..n]),
+        Err(FillError::TooLong) => answer_arguments(&rt, &word),
+        Err(FillError::NotPresent) => play_input(&rt),
     }
-    play_input();
 }
