@@ -1,0 +1,8 @@
+-- `monitor::close` meets its contract. Assumes nothing.
+use borrow.Author.Rules.{rules}
+use Rattle.monitor.proofs.Pumping.{ended}
+use Rattle.monitor.proofs.close.Goals as goal
+
+pub returns : goal.returns
+returns c =
+    ended c.args.f c.requires c.finish.ensures
