@@ -1,5 +1,5 @@
 -- The clock word, as document 01 has it: bit 63 is the lock, bits 48 to 62 the distance from write time to read time, bits 0 to 47 the write time.
--- The widths stand here alone, in `distance_bits` and `time_bits`. Crates above use the laws of `Laws` and unfold nothing.
+-- The widths stand here alone, in `distance_bits` and `time_bits`. Crates above use the laws of proofs/Laws and unfold nothing.
 use Rattle.std.specs.Prelude.{ℕ, ◌+◌, ◌-◌, ◌*◌, ◌/◌, ◌%◌, ◌^◌, Bool, true, false, ◌&&◌, ltb, leb, eqb}
 use Rattle.clock.specs.declared.Packed.{Packed}
 use Rattle.clock.specs.declared.Packed.TheVariants.{Word, Refused}

@@ -11,7 +11,7 @@ use Rattle.clock.specs.declared.Packed.{Packed}
 use Rattle.clock.specs.declared.Packed.TheVariants.{Word}
 use Rattle.clock.specs.contracts.Packed.{the_type}
 use Rattle.clock.specs.Word.{top, fresh, fresh_at}
-use Rattle.clock.specs.Laws.{fresh_at_word, fresh_at-late}
+use Rattle.clock.proofs.Laws.{fresh_at_word, fresh_at-late}
 
 module _ (t : ℕ) {p : Packed} (e : p ≡ fresh_at t) where
   pub late-start : tag_of the_type p ≡ 1 → ltb top t ≡ true

@@ -6,7 +6,7 @@ use mathlib.Core.List.{List}
 use native.Mathlib.Omega.{arith}
 use lib.ListN.{length, get_or, replicate, length-replicate, get_or-replicate}
 use Rattle.clock.specs.Word.{is_locked, fresh}
-use Rattle.clock.specs.Laws.{fresh_is}
+use Rattle.clock.proofs.Laws.{fresh_is}
 use Rattle.rules.specs.Tests.{sum_to}
 use Rattle.rules.specs.Layout.{owners, seat_count, plan_width, phase_at, row, share}
 use Rattle.rules.specs.Tables.{Tables, tables}

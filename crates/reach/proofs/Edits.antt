@@ -11,7 +11,7 @@ use lib.Dec.{leb, ltb, eqb}
 use lib.ListN.{length, get_or, set, take}
 use lib.Seq.{get_or-set_other}
 use Rattle.clock.specs.Word.{is_locked, write_time, read_time}
-use Rattle.clock.specs.Laws.{write≤read}
+use Rattle.clock.proofs.Laws.{write≤read}
 use Rattle.rules.specs.Layout.{seat_count, most_reads, most_writes, row_width, phase_at, owner_at, position_at, reads_at, writes_at, time_at}
 use Rattle.rules.specs.Layout.{read_item_at, kept_write_at, kept_read_at, write_item_at, write_value_at, write_width, row, put, phase, owner, position}
 use Rattle.rules.specs.Layout.{reads, writes, time, read_item, kept_write, kept_read, write_item}

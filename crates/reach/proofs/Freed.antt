@@ -10,7 +10,7 @@ use lib.Dec.{eqb}
 use lib.ListN.{length, get_or, take}
 use lib.Seq.{get_or-set_same, get_or-set_other}
 use Rattle.clock.specs.Word.{is_locked, with_lock}
-use Rattle.clock.specs.Laws.{with_lock_is, with_lock_twice}
+use Rattle.clock.proofs.Laws.{with_lock_is, with_lock_twice}
 use Rattle.rules.specs.Layout.{seat_count, seats_length, phase_at, owner_at, position_at, reads_at, writes_at, time_at, row, phase, reads, writes, write_item}
 use Rattle.rules.specs.Places.{length-row}
 use Rattle.rules.specs.Tables.{Tables, answered, with_seats, with_words}

@@ -10,7 +10,7 @@ use borrow.Author.Tests.{eqb-true, eqb-false}
 use lib.Dec.{eqb}
 use lib.ListN.{length, get_or}
 use Rattle.clock.specs.Word.{is_locked}
-use Rattle.clock.specs.Laws.{write_time_small}
+use Rattle.clock.proofs.Laws.{write_time_small}
 use Rattle.rules.specs.Tests.{count}
 use Rattle.rules.specs.Layout.{seat_count, row, reads, read_item, write_item}
 use Rattle.rules.specs.Tables.{Tables}

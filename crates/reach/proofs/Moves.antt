@@ -9,7 +9,7 @@ use borrow.Author.Tests.{eqb-true, eqb-false, ne_eqb, eq-eqb, ltb-true, ltb-fals
 use lib.Dec.{leb, ltb, eqb}
 use lib.ListN.{length, get_or, set, length-set}
 use Rattle.clock.specs.Word.{top, is_locked, write_time, read_time, with_lock, fresh, extended}
-use Rattle.clock.specs.Laws.{with_lock_is, fresh_is, extended_is}
+use Rattle.clock.proofs.Laws.{with_lock_is, fresh_is, extended_is}
 use Rattle.rules.specs.Layout.{seat_count, seats_length, position_at, time_at, write_item_at, row, put, phase, position, reads, writes, time}
 use Rattle.rules.specs.Layout.{kept_write, write_item, write_value}
 use Rattle.rules.specs.Places.{length-row}
@@ -26,7 +26,7 @@ use Rattle.rules.specs.declared.Verdict.{Verdict}
 use Rattle.rules.specs.declared.Verdict.TheVariants.{Passes, Extends, Fails}
 use Rattle.rows.specs.Changed.{moved_row, Nudged, not_nudged, nudge_phase, nudge_position, nudge_time}
 use Rattle.rows.specs.Becomes.{Becomes, becomes_put, becomes_moved, then-put}
-use Rattle.rules.specs.CommitTime.{commit_kept}
+use Rattle.rules.proofs.CommitTime.{commit_kept}
 use Rattle.observer.specs.Observer.{on_advance}
 use Rattle.observer.proofs.Segments.{length-seg}
 use Rattle.observer.proofs.Entries.{write_at, write_entries, nudged_at, nudged_writes}

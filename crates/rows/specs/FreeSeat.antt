@@ -12,7 +12,7 @@ use Rattle.rules.specs.Layout.{owners, seat_count, row, phase, owner, share, lim
 use Rattle.rules.specs.Tables.{Tables}
 use Rattle.rules.specs.Refusals.{unsized}
 use Rattle.rules.specs.Plan.{bad_row, holds, held, claim, claims, unsound, crowded, owner_refusal, plan_refusal, open_refusal, is_free, free_seat}
-use Rattle.rules.specs.Limits.{held-claim, share-claim}
+use Rattle.rules.proofs.Limits.{held-claim, share-claim}
 use Rattle.rows.specs.Search.{none_at}
 use Rattle.rows.specs.Fine.{none_of, not_given}
 use Rattle.rows.specs.Sums.{sum_add, sum_has, sum_mono, sum_less}

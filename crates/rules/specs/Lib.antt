@@ -1,5 +1,5 @@
--- Document 01 as definitions, to be read in this order. After them, proved: the laws of reading and changing a place (Places),
--- what the definitions come to at their limits (Limits), and where the commit time lies (CommitTime).
+-- Document 01 as definitions, to be read in this order. After them, proved: the laws of reading and changing a place (Places);
+-- in proofs/, what the definitions come to at their limits (Limits), and where the commit time lies (CommitTime).
 pub mod Tests
 pub mod Layout
 pub mod Answers
@@ -11,5 +11,3 @@ pub mod Work
 pub mod Advance
 pub mod Calls
 pub mod Places
-pub mod Limits
-pub mod CommitTime

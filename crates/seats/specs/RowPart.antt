@@ -11,7 +11,7 @@ use borrow.Rule.Slice.PartMut.{put_mid}
 use Rattle.std.proofs.Math.ListN.{length, set, take, drop, length-drop}
 use Rattle.std.proofs.Math.Seq.{set_out, take-nil}
 use Rattle.rules.specs.Layout.{row_width, row_at, row, put}
-use Rattle.rules.specs.Limits.{length-cleared}
+use Rattle.rules.proofs.Limits.{length-cleared}
 use Rattle.rules.specs.Plan.{cleared, freed}
 
 -- a loop that has filled the first i places: one more, and the end

@@ -9,7 +9,7 @@ use borrow.Author.Tests.{eqb-true, leb-true, ltb-true, ltb-false, not-false, le-
 use lib.Dec.{eqb, ltb, leb}
 use lib.ListN.{length, get_or, set, length-set}
 use Rattle.clock.specs.Word.{is_locked, write_time, read_time, extended}
-use Rattle.clock.specs.Laws.{write≤read, extended_is, extended_grows}
+use Rattle.clock.proofs.Laws.{write≤read, extended_is, extended_grows}
 use Rattle.rules.specs.Layout.{position_at, row, put, phase, position, reads, writes, time, read_item}
 use Rattle.rules.specs.Tables.{Tables, tables}
 use Rattle.rules.specs.Work.{write_names, write_of}

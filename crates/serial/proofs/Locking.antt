@@ -9,7 +9,7 @@ use borrow.Author.Tests.{ltb-true, ltb-false}
 use lib.Dec.{ltb}
 use lib.ListN.{length, get_or, set, length-set}
 use Rattle.clock.specs.Word.{top, is_locked, with_lock}
-use Rattle.clock.specs.Laws.{write≤read}
+use Rattle.clock.proofs.Laws.{write≤read}
 use Rattle.rules.specs.Layout.{time_at, row, put, phase, position, reads, writes, time, write_item}
 use Rattle.rules.specs.Tables.{Tables, tables}
 use Rattle.rules.specs.Advance.{moved, commit_time, lock_step, time_step, lock_phase, word_locked, time_run_out}
@@ -18,7 +18,7 @@ use Rattle.rules.specs.declared.Answer.TheVariants.{Locked, Timed}
 use Rattle.rows.specs.Fine.{cond_ind, write_item_lem, position_low, Fine, fine-row}
 use Rattle.rows.specs.Changed.{moved_row, not_nudged, nudge_phase, nudge_position, nudge_time}
 use Rattle.rows.specs.Becomes.{then-put, becomes_moved}
-use Rattle.rules.specs.CommitTime.{commit_kept, commit_above}
+use Rattle.rules.proofs.CommitTime.{commit_kept, commit_above}
 use Rattle.observer.specs.Observer.{WriteEntry, Observer, on_advance, changed, seeing, observe}
 use Rattle.observer.proofs.Entries.{write_at, write_entries}
 use Rattle.serial.specs.Statement.{Values}

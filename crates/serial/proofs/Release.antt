@@ -11,7 +11,7 @@ use borrow.Author.Tests.{eqb-true, eqb-false}
 use lib.Dec.{eqb}
 use lib.ListN.{length, get_or}
 use Rattle.clock.specs.Word.{with_lock}
-use Rattle.clock.specs.Laws.{with_lock_is}
+use Rattle.clock.proofs.Laws.{with_lock_is}
 use Rattle.rules.specs.Layout.{row_width, row, phase, position, writes, write_item}
 use Rattle.rules.specs.Tables.{Tables, tables}
 use Rattle.rules.specs.Plan.{freed}

@@ -8,7 +8,7 @@ use lib.Dec.{ltb}
 use lib.ListN.{length, get_or, set, length-set}
 use lib.Seq.{get_or-set_same, get_or-set_other}
 use Rattle.clock.specs.Word.{fresh}
-use Rattle.clock.specs.Laws.{fresh_is}
+use Rattle.clock.proofs.Laws.{fresh_is}
 use Rattle.rules.specs.Layout.{position_at, row, put, phase, position, writes, time, write_item, write_value}
 use Rattle.rules.specs.Tables.{Tables, tables}
 use Rattle.rules.specs.Plan.{freed}

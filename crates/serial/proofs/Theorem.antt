@@ -14,7 +14,7 @@ use borrow.Author.Tests.{eqb-true, eq-eqb}
 use lib.Dec.{eqb}
 use lib.ListN.{length, replicate, length-replicate, get_or-replicate}
 use Rattle.clock.specs.Word.{fresh}
-use Rattle.clock.specs.Laws.{fresh_is}
+use Rattle.clock.proofs.Laws.{fresh_is}
 use Rattle.rules.specs.Layout.{seat_count, plan_width, phase_at, row, phase, position, reads, writes, time, storing, checking}
 use Rattle.rules.specs.Tables.{Tables, Outcome, tables}
 use Rattle.rules.specs.Answers.{ready, kind}

@@ -1,6 +1,6 @@
 -- `clock::extend` meets its contract. Assumes nothing.
 use mathlib.Core.Path.{sym}
-use Rattle.clock.specs.Laws.{extended_to_word, extended_to_early, extended_to-late}
+use Rattle.clock.proofs.Laws.{extended_to_word, extended_to_early, extended_to-late}
 use Rattle.clock.specs.Word.{distance_span, time_span, top, extended}
 use native.Mathlib.Omega.{arith}
 use borrow.Author.Rules.{rules}

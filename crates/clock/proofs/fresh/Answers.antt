@@ -1,7 +1,7 @@
 -- `clock::fresh` meets its contract. Assumes nothing.
 use Rattle.clock.specs.declared.Packed.TheVariants.{Word}
 use mathlib.Core.Path.{ap, sym, ◌∙◌}
-use Rattle.clock.specs.Laws.{fresh_at_word, fresh_at-late}
+use Rattle.clock.proofs.Laws.{fresh_at_word, fresh_at-late}
 use Rattle.clock.specs.Word.{distance_span, time_span, top, fresh}
 use native.Mathlib.Omega.{arith}
 use Rattle.clock.proofs.fresh.Goals as goal

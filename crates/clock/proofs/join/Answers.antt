@@ -2,7 +2,7 @@
 use borrow.Author.Rules.{rules}
 use native.Mathlib.Omega.{arith}
 use Rattle.clock.specs.Word.{word_of, distance_span, time_span, lock_bit, top}
-use Rattle.clock.specs.Laws.{bit_small}
+use Rattle.clock.proofs.Laws.{bit_small}
 use Rattle.clock.proofs.join.Goals as goal
 
 pub overflow_mul-result : goal.overflow_mul-result

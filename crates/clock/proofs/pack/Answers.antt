@@ -1,7 +1,7 @@
 -- `clock::pack` meets its contract. Assumes nothing.
 use Rattle.clock.specs.declared.Packed.TheVariants.{Word}
 use mathlib.Core.Path.{ap, sym, ◌∙◌}
-use Rattle.clock.specs.Laws.{packed_word, packed_far, packed-late}
+use Rattle.clock.proofs.Laws.{packed_word, packed_far, packed-late}
 use Rattle.clock.specs.Word.{distance_span, time_span, top}
 use native.Mathlib.Omega.{arith}
 use Rattle.clock.proofs.pack.Goals as goal

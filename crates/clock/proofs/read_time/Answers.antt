@@ -1,5 +1,5 @@
 -- `clock::read_time` meets its contract. Assumes nothing.
-use Rattle.clock.specs.Laws.{read_time-fits}
+use Rattle.clock.proofs.Laws.{read_time-fits}
 use Rattle.clock.specs.Word.{read_time}
 use native.Mathlib.Omega.{arith}
 use borrow.Author.Rules.{rules}

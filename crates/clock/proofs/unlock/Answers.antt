@@ -1,5 +1,5 @@
 -- `clock::unlock` meets its contract. Assumes nothing.
-use Rattle.clock.specs.Laws.{distance_small, write_time_small}
+use Rattle.clock.proofs.Laws.{distance_small, write_time_small}
 use Rattle.clock.specs.Word.{with_lock}
 use native.Mathlib.Omega.{arith}
 use borrow.Author.Rules.{rules}

@@ -3,7 +3,7 @@ use mathlib.Core.Path.{◌≡◌, ◌∙◌}
 use borrow.Author.Rules.{rules}
 use Rattle.clock.specs.declared.Packed.TheVariants.{Word}
 use Rattle.clock.specs.Word.{extended}
-use Rattle.clock.specs.Laws.{extended_to_word}
+use Rattle.clock.proofs.Laws.{extended_to_word}
 use Rattle.commit.proofs.Words.{the_word}
 use Rattle.commit.proofs.extended_word.Goals as goal
 use Rattle.commit.proofs.extended_word.Goals.{After-extend}

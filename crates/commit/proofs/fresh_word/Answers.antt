@@ -3,7 +3,7 @@ use mathlib.Core.Path.{◌≡◌, ◌∙◌}
 use borrow.Author.Rules.{rules}
 use Rattle.clock.specs.declared.Packed.TheVariants.{Word}
 use Rattle.clock.specs.Word.{fresh}
-use Rattle.clock.specs.Laws.{fresh_at_word}
+use Rattle.clock.proofs.Laws.{fresh_at_word}
 use Rattle.commit.proofs.Words.{the_word}
 use Rattle.commit.proofs.fresh_word.Goals as goal
 use Rattle.commit.proofs.fresh_word.Goals.{After-fresh}
