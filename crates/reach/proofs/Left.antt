@@ -11,7 +11,7 @@ use Rattle.clock.specs.Word.{top, is_locked}
 use Rattle.rules.specs.Layout.{most_reads, most_writes, row, phase, position, reads, writes, write_item, storing, checking, working}
 use Rattle.rules.specs.Tables.{Tables, Outcome, answered, unless}
 use Rattle.rules.specs.Answers.{dropped, refused, aborted, kind}
-use Rattle.rules.specs.Refusals.{refusal, seat_refusal, record_refusal}
+use Rattle.rules.specs.Refusals.{seat_refusal, record_refusal}
 use Rattle.rules.specs.Plan.{setup_refusal, setup, open_refusal, open_seat}
 use Rattle.rules.specs.Work.{read_of, write_of, first_read, read_in, read, write_in, write}
 use Rattle.rules.specs.Advance.{held_locks, let_go, lock_step, commit_time, time_step, judged, passed, ruled, check_step, seal_step, store_step, passed_to, word_locked}

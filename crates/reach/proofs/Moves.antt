@@ -14,7 +14,6 @@ use Rattle.rules.specs.Layout.{seat_count, seats_length, position_at, time_at, w
 use Rattle.rules.specs.Layout.{kept_write, write_item, write_value}
 use Rattle.rules.specs.Places.{length-row}
 use Rattle.rules.specs.Tables.{Tables, answered, tables, with_seats, with_words}
-use Rattle.rules.specs.Answers.{locked}
 use Rattle.rules.specs.Advance.{moved, lock_step, commit_time, time_step, verdict, check_item, judged, stretched, passed, ruled, check_step, passed_to, version_gone}
 use Rattle.rules.specs.Advance.{word_locked}
 use Rattle.rules.specs.Advance.{time_run_out}

@@ -1,7 +1,6 @@
 -- Which records a run of entries names, be they write or read entries: laws of `named`, and of the locks that a row holds.
 use Prim.Native.Nat.{ℕ, ◌<◌, ◌≤◌}
 use mathlib.Core.Path.{◌≡◌, refl, sym, ◌∙◌}
-use mathlib.Core.Logic.{◌≢◌}
 use mathlib.Core.Bool.{Bool, true, false, ◌&&◌, true≢false}
 use mathlib.Core.List.{List}
 use native.Mathlib.Omega.{arith}

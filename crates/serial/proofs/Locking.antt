@@ -10,7 +10,7 @@ use lib.Dec.{ltb}
 use lib.ListN.{length, get_or, set, length-set}
 use Rattle.clock.specs.Word.{top, is_locked, with_lock}
 use Rattle.clock.proofs.Laws.{write≤read}
-use Rattle.rules.specs.Layout.{time_at, row, put, phase, position, reads, writes, time, write_item}
+use Rattle.rules.specs.Layout.{time_at, row, put, phase, position, reads, writes, write_item}
 use Rattle.rules.specs.Tables.{Tables, tables}
 use Rattle.rules.specs.Advance.{moved, commit_time, lock_step, time_step, lock_phase, word_locked, time_run_out}
 use Rattle.rules.specs.Calls.{Advance}

@@ -1,7 +1,7 @@
 -- Tables lent in part: what comes back stands before the rest, and what is lent next. Assumes nothing.
 use Prim.Native.Nat.{ℕ}
 use mathlib.Core.Path.{◌≡◌, refl, ap, sym, ◌∙◌}
-use mathlib.Core.List.{List, [], ◌∷◌, ◌++◌}
+use mathlib.Core.List.{List, ◌++◌}
 use lib.ListN.{length, take, drop, take-append-drop}
 use Rattle.rules.specs.Tables.{Tables, Outcome, tables, answered}
 use Rattle.rules.specs.declared.Answer.{Answer}

@@ -1,5 +1,4 @@
 -- `answers::spell` meets its contract: each case by computation. Assumes nothing.
-use borrow.Author.Rules.{rules}
 use Rattle.answers.proofs.spell.Goals as goal
 
 pub returns-in-Ready : goal.returns-in-Ready

@@ -1,5 +1,4 @@
 -- `boundary::ponsevran_read` meets its contract. Assumes nothing.
-use borrow.Author.Rules.{rules}
 use Rattle.boundary.specs.Given.{given_of}
 use Rattle.boundary.proofs.ponsevran_read.Goals as goal
 

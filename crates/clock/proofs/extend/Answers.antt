@@ -3,7 +3,6 @@ use mathlib.Core.Path.{sym}
 use Rattle.clock.proofs.Laws.{extended_to_word, extended_to_early, extended_to-late}
 use Rattle.clock.specs.Word.{distance_span, time_span, top, extended}
 use native.Mathlib.Omega.{arith}
-use borrow.Author.Rules.{rules}
 use Rattle.clock.proofs.extend.Goals as goal
 
 pub returns-then-t-written : goal.returns-then-t-written

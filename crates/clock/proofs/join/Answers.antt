@@ -1,5 +1,4 @@
 -- `clock::join` meets its contract: the sum of the parts fits. Assumes nothing.
-use borrow.Author.Rules.{rules}
 use native.Mathlib.Omega.{arith}
 use Rattle.clock.specs.Word.{word_of, distance_span, time_span, lock_bit, top}
 use Rattle.clock.proofs.Laws.{bit_small}

@@ -2,7 +2,6 @@
 use Rattle.clock.proofs.Laws.{distance_small, write_time_small}
 use Rattle.clock.specs.Word.{with_lock}
 use native.Mathlib.Omega.{arith}
-use borrow.Author.Rules.{rules}
 use Rattle.clock.proofs.lock.Goals as goal
 
 pub join-requires : goal.join-requires

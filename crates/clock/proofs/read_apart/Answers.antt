@@ -1,5 +1,4 @@
 -- `clock::read_apart` meets its contract. Assumes nothing.
-use borrow.Author.Rules.{rules}
 use Rattle.clock.proofs.read_apart.Goals as goal
 
 pub returns : goal.returns

@@ -2,7 +2,6 @@
 use Rattle.clock.proofs.Laws.{read_time-fits}
 use Rattle.clock.specs.Word.{read_time}
 use native.Mathlib.Omega.{arith}
-use borrow.Author.Rules.{rules}
 use Rattle.clock.proofs.read_time.Goals as goal
 
 pub overflow_add-result : goal.overflow_add-result

@@ -1,7 +1,6 @@
 -- `clock::top` meets its contract. Assumes nothing.
 use mathlib.Core.Path.{refl}
 use Rattle.clock.specs.Word.{top, time_span}
-use borrow.Author.Rules.{rules}
 use Rattle.clock.proofs.top.Goals as goal
 
 pub returns : goal.returns

@@ -1,7 +1,6 @@
 -- `commit::abandon` meets its contract. Assumes nothing.
 use mathlib.Core.Path.{◌∙◌, sym}
-use borrow.Author.Rules.{rules}
-use Rattle.rules.specs.Tables.{Tables, tables}
+use Rattle.rules.specs.Tables.{tables}
 use Rattle.rules.specs.Advance.{abandon}
 use Rattle.seats.specs.Ready.{in_use, phase_below, ready_call, refused_call}
 use Rattle.commit.proofs.abandon.Goals as goal

@@ -1,5 +1,4 @@
 -- `commit::abort` meets its contract. Assumes nothing.
-use borrow.Author.Rules.{rules}
 use Rattle.rules.specs.declared.Answer.TheVariants.{Aborted}
 use Rattle.commit.proofs.abort.Goals as goal
 

@@ -1,6 +1,5 @@
 -- `commit::advance` meets its contract. Assumes nothing.
 use mathlib.Core.Path.{◌∙◌, sym}
-use borrow.Author.Rules.{rules}
 use Rattle.rules.specs.Advance.{advance}
 use Rattle.seats.specs.Ready.{in_use, ready_call, refused_call}
 use Rattle.commit.proofs.advance.Goals as goal

@@ -1,9 +1,8 @@
 -- `commit::advance_in` meets its contract. Assumes nothing.
 use native.Mathlib.Omega.{arith}
 use borrow.Author.Tests.{ne_eqb}
-use borrow.Author.Rules.{rules}
 use mathlib.Core.Path.{◌≡◌}
-use Rattle.rules.specs.Tables.{Tables, tables}
+use Rattle.rules.specs.Tables.{tables}
 use Rattle.rules.specs.Advance.{advance_in}
 use Rattle.commit.proofs.advance_in.Goals as goal
 

@@ -1,6 +1,5 @@
 -- `commit::check_step` meets its contract. Assumes nothing.
 use mathlib.Core.Path.{◌∙◌, sym}
-use borrow.Author.Rules.{rules}
 use Rattle.rules.specs.Tables.{with_words, with_seats}
 use Rattle.seats.specs.Outcomes.{entry_at}
 use Rattle.commit.proofs.Checks.{check_passes, judged_covered}

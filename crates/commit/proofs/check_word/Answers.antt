@@ -1,7 +1,6 @@
 -- `commit::check_word` meets its contract. Assumes nothing.
 use mathlib.Core.Path.{◌≡◌, ◌∙◌, sym}
 use native.Mathlib.Omega.{arith}
-use borrow.Author.Rules.{rules}
 use Rattle.rules.specs.Tables.{Tables, with_words, with_seats}
 use Rattle.rules.specs.Advance.{judged}
 use Rattle.seats.specs.Outcomes.{write_of_lem}

@@ -1,8 +1,5 @@
 -- `commit::due_time` meets its contract. Assumes nothing.
-use Prim.Native.Nat.{◌-◌, ◌≤◌}
-use mathlib.Core.Path.{◌≡◌}
 use native.Mathlib.Omega.{arith}
-use borrow.Author.Rules.{rules}
 use Rattle.clock.proofs.Laws.{read_time-fits}
 use Rattle.rules.specs.Advance.{due_time}
 use Rattle.seats.specs.Loops.{at_end}

@@ -1,11 +1,6 @@
 use Prim.Native.Nat.{◌-◌, ◌≤◌}
 use mathlib.Core.Path.{◌≡◌}
-use native.Mathlib.Omega.{arith}
-use borrow.Author.Rules.{rules}
-use Rattle.clock.proofs.Laws.{read_time-fits}
 use Rattle.rules.specs.Advance.{due_time}
-use Rattle.seats.specs.Loops.{at_end}
-use Rattle.commit.proofs.Folds.{due_more, due_none}
 use Rattle.commit.proofs.due_time.Given as goal
 
 abbrev pub invariant-loop-i : goal.invariant-loop-i

@@ -1,6 +1,5 @@
 -- `commit::fresh_word` meets its contract. Assumes nothing.
 use mathlib.Core.Path.{◌≡◌, ◌∙◌}
-use borrow.Author.Rules.{rules}
 use Rattle.clock.specs.declared.Packed.TheVariants.{Word}
 use Rattle.clock.specs.Word.{fresh}
 use Rattle.clock.proofs.Laws.{fresh_at_word}

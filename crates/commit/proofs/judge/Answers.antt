@@ -2,7 +2,6 @@
 use mathlib.Core.Path.{◌≡◌, ◌∙◌, sym}
 use mathlib.Core.Bool.{cond}
 use borrow.Author.Tests.{eq-eqb, le-ltb, lt-ltb, ne_eqb}
-use borrow.Author.Rules.{rules}
 use lib.Dec.{ltb}
 use Rattle.rules.specs.Advance.{by_word, word_blocked}
 use Rattle.rules.specs.declared.Verdict.TheVariants.{Passes, Extends, Fails}

@@ -1,6 +1,5 @@
 -- `commit::pass` meets its contract. Assumes nothing.
 use mathlib.Core.Path.{refl}
-use borrow.Author.Rules.{rules}
 use Rattle.rules.specs.Advance.{passed_to}
 use Rattle.seats.specs.Outcomes.{same}
 use Rattle.commit.proofs.pass.Goals as goal

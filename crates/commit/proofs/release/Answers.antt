@@ -1,9 +1,6 @@
 -- `commit::release` meets its contract. Assumes nothing.
-use Prim.Native.Nat.{◌-◌, ◌≤◌}
-use mathlib.Core.Path.{◌∙◌, ◌≡◌, refl}
+use mathlib.Core.Path.{◌∙◌, refl}
 use native.Mathlib.Omega.{arith}
-use borrow.Author.Rules.{rules}
-use lib.ListN.{length}
 use Rattle.rules.specs.Advance.{released}
 use Rattle.seats.specs.Loops.{at_end}
 use Rattle.commit.proofs.Folds.{released_more, released-none}

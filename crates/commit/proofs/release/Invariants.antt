@@ -1,11 +1,7 @@
 use Prim.Native.Nat.{◌-◌, ◌≤◌}
-use mathlib.Core.Path.{◌∙◌, ◌≡◌, refl}
-use native.Mathlib.Omega.{arith}
-use borrow.Author.Rules.{rules}
+use mathlib.Core.Path.{◌≡◌}
 use lib.ListN.{length}
 use Rattle.rules.specs.Advance.{released}
-use Rattle.seats.specs.Loops.{at_end}
-use Rattle.commit.proofs.Folds.{released_more, released-none}
 use Rattle.commit.proofs.release.Given as goal
 
 abbrev pub invariant-loop-i : goal.invariant-loop-i

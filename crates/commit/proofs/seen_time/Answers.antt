@@ -1,8 +1,5 @@
 -- `commit::seen_time` meets its contract. Assumes nothing.
-use Prim.Native.Nat.{◌-◌, ◌≤◌}
-use mathlib.Core.Path.{◌≡◌}
 use native.Mathlib.Omega.{arith}
-use borrow.Author.Rules.{rules}
 use Rattle.rules.specs.Advance.{seen_time}
 use Rattle.seats.specs.Loops.{at_end}
 use Rattle.commit.proofs.Folds.{seen_more, seen_none}

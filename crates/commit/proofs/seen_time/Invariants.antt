@@ -1,10 +1,6 @@
 use Prim.Native.Nat.{◌-◌, ◌≤◌}
 use mathlib.Core.Path.{◌≡◌}
-use native.Mathlib.Omega.{arith}
-use borrow.Author.Rules.{rules}
 use Rattle.rules.specs.Advance.{seen_time}
-use Rattle.seats.specs.Loops.{at_end}
-use Rattle.commit.proofs.Folds.{seen_more, seen_none}
 use Rattle.commit.proofs.seen_time.Given as goal
 
 abbrev pub invariant-loop-i : goal.invariant-loop-i

@@ -1,7 +1,6 @@
 -- `commit::store_phase` meets its contract. Assumes nothing.
 use borrow.Author.Tests.{le-ltb, lt-ltb}
-use borrow.Author.Rules.{rules}
-use Rattle.rules.specs.Tables.{Tables, tables}
+use Rattle.rules.specs.Tables.{tables}
 use Rattle.rules.specs.Advance.{store_phase}
 use Rattle.commit.proofs.store_phase.Goals as goal
 

@@ -1,7 +1,6 @@
 -- `commit::store_step_lem` meets its contract. Assumes nothing.
 use mathlib.Core.Path.{refl}
 use native.Mathlib.Omega.{arith}
-use borrow.Author.Rules.{rules}
 use Rattle.rules.specs.Advance.{effect, store_step}
 use Rattle.rows.specs.Fine.{time-top}
 use Rattle.seats.specs.Outcomes.{entry_at, same}

@@ -2,7 +2,6 @@
 use mathlib.Core.Path.{◌≡◌, refl}
 use native.Mathlib.Omega.{arith}
 use borrow.Author.Tests.{le-ltb, lt-ltb}
-use borrow.Author.Rules.{rules}
 use Rattle.rules.specs.Layout.{row}
 use Rattle.rules.specs.Advance.{commit_time, time_step}
 use Rattle.seats.specs.Outcomes.{next, same}

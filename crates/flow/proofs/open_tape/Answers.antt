@@ -1,6 +1,5 @@
 -- `flow::open_tape` meets its contract. Assumes nothing.
 use native.Mathlib.Omega.{arith}
-use borrow.Author.Rules.{rules}
 use Rattle.tape.specs.Lines.{first_offset}
 use Rattle.tape.specs.Room.{fit}
 use Rattle.flow.proofs.Fronts.{fit_from, waits_on, calls_behind, other_version}

@@ -2,7 +2,6 @@
 use native.Mathlib.Omega.{arith}
 use mathlib.Core.Path.{◌≡◌, refl, ap, sym, ◌∙◌}
 use mathlib.Core.Bool.{false, true≢false}
-use borrow.Author.Rules.{rules}
 use Rattle.rules.specs.Tables.{Tables, tables}
 use Rattle.tape.specs.Room.{fit}
 use Rattle.flow.specs.declared.Flow.{Flow}

@@ -1,5 +1,4 @@
 -- `flow::take_calls` meets its contract. Assumes nothing.
-use borrow.Author.Rules.{rules}
 use Rattle.flow.proofs.Fronts.{onward_goes}
 use Rattle.flow.proofs.take_calls.Goals as goal
 

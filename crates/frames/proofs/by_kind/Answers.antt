@@ -2,7 +2,6 @@
 use borrow.Author.Tests.{ne_eqb}
 use Rattle.frames.specs.Decode.{by_kind}
 use native.Mathlib.Omega.{arith}
-use borrow.Author.Rules.{rules}
 use Rattle.frames.proofs.by_kind.Goals as goal
 
 pub returns-in-0 : goal.returns-in-0

@@ -1,7 +1,6 @@
 -- `frames::decode` meets its contract. Assumes nothing.
 use borrow.Author.Tests.{lt-ltb, le-ltb}
 use Rattle.frames.specs.Decode.{decoded}
-use borrow.Author.Rules.{rules}
 use Rattle.frames.proofs.decode.Goals as goal
 
 pub returns-then-b-gt0 : goal.returns-then-b-gt0

@@ -1,6 +1,5 @@
 -- `frames::open_call` meets its contract. Assumes nothing.
 use borrow.Author.Tests.{eq-eqb, ne_eqb}
-use borrow.Author.Rules.{rules}
 use Rattle.frames.proofs.open_call.Goals as goal
 
 pub returns-then-b-eq-OPEN_SIZE : goal.returns-then-b-eq-OPEN_SIZE

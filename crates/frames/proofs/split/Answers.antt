@@ -6,7 +6,6 @@ use Prim.Native.Nat.{◌-◌, ◌≤◌, ◌<◌}
 use native.Mathlib.Omega.{arith}
 use Rattle.frames.specs.Decode.{be16, length_size, frame_of}
 use borrow.Author.Tests.{lt-ltb, le-ltb, le-leb, lt-leb}
-use borrow.Author.Rules.{rules}
 use Rattle.frames.proofs.split.Goals as goal
 
 pub returns-then-t-lt-LENGTH : goal.returns-then-t-lt-LENGTH

@@ -1,6 +1,5 @@
 -- `frames::write_call` meets its contract. Assumes nothing.
 use borrow.Author.Tests.{eq-eqb, ne_eqb}
-use borrow.Author.Rules.{rules}
 use Rattle.frames.proofs.write_call.Goals as goal
 
 pub returns-then-b-eq-WRITE_SIZE : goal.returns-then-b-eq-WRITE_SIZE

@@ -1,5 +1,4 @@
 -- `monitor::close` meets its contract. Assumes nothing.
-use borrow.Author.Rules.{rules}
 use Rattle.monitor.proofs.Pumping.{ended}
 use Rattle.monitor.proofs.close.Goals as goal
 

@@ -2,16 +2,10 @@
 -- as are to come. Assumes nothing.
 use Prim.Native.Nat.{◌≤◌}
 use native.Mathlib.Omega.{arith}
-use mathlib.Core.Path.{◌≡◌, refl}
-use borrow.Author.Rules.{rules}
-use mathlib.Core.List.{List}
-use Prim.Native.Nat.{ℕ}
-use lib.ListN.{length}
-use Rattle.flow.specs.declared.Flow.{Flow}
-use Rattle.monitor.specs.Program.{input_length, Proceeds}
+use mathlib.Core.Path.{refl}
+use Rattle.monitor.specs.Program.{input_length}
 use Rattle.monitor.proofs.Pumping.{first_turn, one_turn, next_turn}
 use Rattle.monitor.proofs.play.Goals as goal
-use Rattle.monitor.proofs.play.Invariants.{Plays}
 
 pub loop-turns-init : goal.loop-turns-init
 loop-turns-init c =

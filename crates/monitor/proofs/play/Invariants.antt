@@ -1,13 +1,9 @@
-use Prim.Native.Nat.{◌≤◌}
-use native.Mathlib.Omega.{arith}
-use mathlib.Core.Path.{◌≡◌, refl}
-use borrow.Author.Rules.{rules}
+use mathlib.Core.Path.{◌≡◌}
 use mathlib.Core.List.{List}
 use Prim.Native.Nat.{ℕ}
 use lib.ListN.{length}
 use Rattle.flow.specs.declared.Flow.{Flow}
-use Rattle.monitor.specs.Program.{input_length, Proceeds}
-use Rattle.monitor.proofs.Pumping.{first_turn, one_turn, next_turn}
+use Rattle.monitor.specs.Program.{Proceeds}
 use Rattle.monitor.proofs.play.Given as goal
 
 -- the lengths are what they were, and so many turns are to come
@@ -20,7 +16,7 @@ pub record Plays (buf₀ values₀ words₀ seats₀ out₀ buf values words sea
   pub proceeds : Proceeds f turns
 
 abbrev pub invariant-loop-turns : goal.invariant-loop-turns
-invariant-loop-turns l = 
+invariant-loop-turns l =
     let i = l.initial in
     Plays i.buf i.values i.words i.seats i.out l.buf l.values l.words l.seats l.out l.f l.turns
 

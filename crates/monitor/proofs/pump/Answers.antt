@@ -1,5 +1,4 @@
 -- `monitor::pump` meets its contract. Assumes nothing.
-use borrow.Author.Rules.{rules}
 use Rattle.monitor.proofs.Pumping.{pumped}
 use Rattle.monitor.proofs.pump.Goals as goal
 

@@ -1,6 +1,4 @@
 use Prim.Native.Nat.{◌≤◌}
-use native.Mathlib.Omega.{arith}
-use borrow.Author.Rules.{rules}
 use Rattle.monitor.proofs.put.Given as goal
 
 abbrev pub invariant-loop-tries : goal.invariant-loop-tries

@@ -1,10 +1,9 @@
 -- `plan::claim_sum` meets its contract. Assumes nothing.
-use Prim.Native.Nat.{◌*◌, ◌-◌, ◌≤◌}
+use Prim.Native.Nat.{◌≤◌}
 use mathlib.Core.Path.{◌≡◌}
 use native.Mathlib.Omega.{arith}
-use borrow.Author.Rules.{rules}
 use Rattle.rules.specs.Tests.{sum_to}
-use Rattle.rules.specs.Layout.{owners, seat_count}
+use Rattle.rules.specs.Layout.{seat_count}
 use Rattle.rules.specs.Plan.{claim, claims}
 use Rattle.seats.specs.Loops.{at_end}
 use Rattle.plan.proofs.Plans.{sum_more, sum_none}

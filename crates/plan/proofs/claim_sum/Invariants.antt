@@ -1,13 +1,8 @@
 use Prim.Native.Nat.{◌*◌, ◌-◌, ◌≤◌}
 use mathlib.Core.Path.{◌≡◌}
-use native.Mathlib.Omega.{arith}
-use borrow.Author.Rules.{rules}
 use Rattle.rules.specs.Tests.{sum_to}
 use Rattle.rules.specs.Layout.{owners, seat_count}
-use Rattle.rules.specs.Plan.{claim, claims}
-use Rattle.seats.specs.Loops.{at_end}
-use Rattle.plan.proofs.Plans.{sum_more, sum_none}
-use Rattle.plan.proofs.Census.{claim_is, claim_small}
+use Rattle.rules.specs.Plan.{claim}
 use Rattle.plan.proofs.claim_sum.Given as goal
 
 abbrev pub invariant-loop-o : goal.invariant-loop-o

@@ -1,6 +1,5 @@
 -- `plan::count` meets its contract. Assumes nothing.
 use mathlib.Core.Path.{◌∙◌}
-use borrow.Author.Rules.{rules}
 use Rattle.plan.proofs.Census.{counts_free, counts_taken}
 use Rattle.plan.proofs.count.Goals as goal
 

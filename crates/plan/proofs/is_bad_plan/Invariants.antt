@@ -1,12 +1,9 @@
 use Prim.Native.Nat.{◌*◌, ◌-◌, ◌≤◌}
-use mathlib.Core.Path.{◌≡◌, sym}
-use native.Mathlib.Omega.{arith}
-use borrow.Author.Rules.{rules}
+use mathlib.Core.Path.{◌≡◌}
 use Rattle.rules.specs.Tests.{sum_to}
 use Rattle.rules.specs.Layout.{owners, seat_count, share}
 use Rattle.rules.specs.Plan.{bad_share}
-use Rattle.rows.specs.Search.{Passed, passed_more, passed_none}
-use Rattle.plan.proofs.Plans.{bad_at, bad_by_sum, limit_over, share_good, share_over, sum_more, sum_none}
+use Rattle.rows.specs.Search.{Passed}
 use Rattle.plan.proofs.is_bad_plan.Given as goal
 
 abbrev pub invariant-loop-o : goal.invariant-loop-o

@@ -1,10 +1,6 @@
 -- `plan::lay` meets its contract. Assumes nothing.
-use Prim.Native.Nat.{◌-◌, ◌≤◌}
-use mathlib.Core.Path.{◌∙◌, ◌≡◌, refl}
+use mathlib.Core.Path.{◌∙◌, refl}
 use native.Mathlib.Omega.{arith}
-use borrow.Author.Rules.{rules}
-use lib.ListN.{length}
-use Rattle.rules.specs.Layout.{plan_width}
 use Rattle.rules.specs.Plan.{laid}
 use Rattle.seats.specs.Loops.{at_end}
 use Rattle.plan.proofs.Plans.{laid_more, laid_none}

@@ -1,12 +1,8 @@
 use Prim.Native.Nat.{◌-◌, ◌≤◌}
-use mathlib.Core.Path.{◌∙◌, ◌≡◌, refl}
-use native.Mathlib.Omega.{arith}
-use borrow.Author.Rules.{rules}
+use mathlib.Core.Path.{◌≡◌}
 use lib.ListN.{length}
 use Rattle.rules.specs.Layout.{plan_width}
 use Rattle.rules.specs.Plan.{laid}
-use Rattle.seats.specs.Loops.{at_end}
-use Rattle.plan.proofs.Plans.{laid_more, laid_none}
 use Rattle.plan.proofs.lay.Given as goal
 
 abbrev pub invariant-loop-i : goal.invariant-loop-i

@@ -1,6 +1,5 @@
 -- `plan::owner_refusal` meets its contract. Assumes nothing.
 use borrow.Author.Tests.{le-leb, lt-leb}
-use borrow.Author.Rules.{rules}
 use Rattle.rules.specs.Plan.{owner_refusal}
 use Rattle.plan.proofs.owner_refusal.Goals as goal
 

@@ -4,7 +4,6 @@ use mathlib.Core.Path.{◌≡◌, ◌∙◌, sym}
 use mathlib.Core.Bool.{Bool, false}
 use mathlib.Core.List.{List, [], ◌∷◌}
 use borrow.Author.Tests.{le-ltb, lt-ltb}
-use borrow.Author.Rules.{rules}
 use lib.Dec.{ltb}
 use Rattle.rules.specs.Tests.{any, one_of}
 use Rattle.rules.specs.Layout.{owners, seat_count}

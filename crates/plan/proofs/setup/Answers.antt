@@ -3,7 +3,6 @@ use denote.Enum.Declared.{tag_of}
 use mathlib.Core.Path.{◌≡◌, ◌∙◌, ap, sym}
 use Rattle.clock.specs.contracts.Packed.{the_type}
 use mathlib.Core.Bool.{false}
-use borrow.Author.Rules.{rules}
 use lib.ListN.{length}
 use Rattle.rules.specs.Refusals.{unsized}
 use Rattle.rules.specs.Plan.{setup, setup_refusal}

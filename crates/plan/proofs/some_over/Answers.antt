@@ -1,13 +1,9 @@
 -- `plan::some_over` meets its contract. Assumes nothing.
-use Prim.Native.Nat.{◌-◌}
 use mathlib.Core.Path.{◌≡◌, ◌∙◌, sym}
-use native.Mathlib.Omega.{arith}
 use borrow.Author.Tests.{le-ltb, lt-ltb}
-use borrow.Author.Rules.{rules}
 use lib.Dec.{ltb}
-use Rattle.rules.specs.Layout.{owners}
 use Rattle.rules.specs.Plan.{over_limit}
-use Rattle.rows.specs.Search.{Passed, none_passes, passed_more, passed_none, some_passes}
+use Rattle.rows.specs.Search.{none_passes, passed_more, passed_none, some_passes}
 use Rattle.plan.proofs.Census.{held_is}
 use Rattle.plan.proofs.some_over.Goals as goal
 use Rattle.plan.proofs.some_over.Goals.{After-at-in-loop-o}

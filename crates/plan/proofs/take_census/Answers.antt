@@ -1,14 +1,12 @@
 -- `plan::take_census` meets its contract. Assumes nothing.
-use Prim.Native.Nat.{◌-◌}
 use mathlib.Core.Path.{◌≡◌, ◌∙◌, refl, sym}
 use mathlib.Core.Logic.{inl}
 use native.Mathlib.Omega.{arith}
-use borrow.Author.Rules.{rules}
-use Rattle.rules.specs.Layout.{seat_count, phase_at, owner_at}
+use Rattle.rules.specs.Layout.{phase_at, owner_at}
 use Rattle.rules.specs.Places.{cell_at}
 use Rattle.rules.specs.Plan.{bad_row}
-use Rattle.rows.specs.Search.{Passed, passed_more, passed_none, some_passes}
-use Rattle.plan.specs.Census.{RowOf, Counts, Lowest}
+use Rattle.rows.specs.Search.{passed_more, passed_none, some_passes}
+use Rattle.plan.specs.Census.{RowOf}
 use Rattle.plan.proofs.Census.{census_bad, census_sound, held_small}
 use Rattle.plan.proofs.take_census.Goals as goal
 use Rattle.plan.proofs.take_census.Goals.{After-at-owner, After-is_bad_row}

@@ -1,14 +1,8 @@
 use Prim.Native.Nat.{◌-◌}
-use mathlib.Core.Path.{◌≡◌, ◌∙◌, refl, sym}
-use mathlib.Core.Logic.{inl}
-use native.Mathlib.Omega.{arith}
-use borrow.Author.Rules.{rules}
-use Rattle.rules.specs.Layout.{seat_count, phase_at, owner_at}
-use Rattle.rules.specs.Places.{cell_at}
+use Rattle.rules.specs.Layout.{seat_count}
 use Rattle.rules.specs.Plan.{bad_row}
-use Rattle.rows.specs.Search.{Passed, passed_more, passed_none, some_passes}
-use Rattle.plan.specs.Census.{RowOf, Counts, Lowest}
-use Rattle.plan.proofs.Census.{census_bad, census_sound, held_small}
+use Rattle.rows.specs.Search.{Passed}
+use Rattle.plan.specs.Census.{Counts, Lowest}
 use Rattle.plan.proofs.take_census.Given as goal
 
 abbrev pub invariant-loop-i : goal.invariant-loop-i

@@ -1,5 +1,4 @@
 -- `seats::admit` meets its contract. Assumes nothing.
-use borrow.Author.Rules.{rules}
 use Rattle.rules.specs.Refusals.{refusal}
 use Rattle.seats.specs.Heads.{admission}
 use Rattle.seats.proofs.admit.Goals as goal

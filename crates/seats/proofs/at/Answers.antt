@@ -1,6 +1,5 @@
 -- `seats::at` meets its contract. Assumes nothing.
 use mathlib.Core.Path.{sym}
-use borrow.Author.Rules.{rules}
 use lib.ListN.{get_or-eq_default}
 use Rattle.seats.proofs.at.Goals as goal
 

@@ -1,9 +1,7 @@
 -- `seats::fill` meets its contract. Assumes nothing.
-use Prim.Native.Nat.{◌-◌, ◌≤◌}
-use mathlib.Core.List.{◌++◌}
-use mathlib.Core.Path.{◌≡◌, refl}
+use mathlib.Core.Path.{refl}
 use native.Mathlib.Omega.{arith}
-use lib.ListN.{drop, length, length-set, replicate}
+use lib.ListN.{length-set}
 use Rattle.seats.specs.RowPart.{filled_end, filled_more}
 use Rattle.seats.proofs.fill.Goals as goal
 

@@ -1,9 +1,7 @@
 use Prim.Native.Nat.{◌-◌, ◌≤◌}
 use mathlib.Core.List.{◌++◌}
-use mathlib.Core.Path.{◌≡◌, refl}
-use native.Mathlib.Omega.{arith}
-use lib.ListN.{drop, length, length-set, replicate}
-use Rattle.seats.specs.RowPart.{filled_end, filled_more}
+use mathlib.Core.Path.{◌≡◌}
+use lib.ListN.{drop, length, replicate}
 use Rattle.seats.proofs.fill.Given as goal
 
 abbrev pub invariant-loop-i : goal.invariant-loop-i

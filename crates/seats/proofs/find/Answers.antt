@@ -1,12 +1,8 @@
 -- `seats::find` meets its contract. Assumes nothing.
-use Prim.Native.Nat.{◌+◌, ◌*◌, ◌-◌}
 use mathlib.Core.Path.{sym}
 use native.Mathlib.Omega.{arith}
 use borrow.Author.Tests.{eq-eqb, ne_eqb}
-use borrow.Author.Rules.{rules}
-use lib.Dec.{eqb}
-use lib.ListN.{get_or}
-use Rattle.rows.specs.Search.{Passed, found_first, found_none, passed_more, passed_none, within}
+use Rattle.rows.specs.Search.{found_first, found_none, passed_more, passed_none, within}
 use Rattle.seats.proofs.find.Goals as goal
 
 pub overflow_mul-width : goal.overflow_mul-width

@@ -1,11 +1,7 @@
 use Prim.Native.Nat.{◌+◌, ◌*◌, ◌-◌}
-use mathlib.Core.Path.{sym}
-use native.Mathlib.Omega.{arith}
-use borrow.Author.Tests.{eq-eqb, ne_eqb}
-use borrow.Author.Rules.{rules}
 use lib.Dec.{eqb}
 use lib.ListN.{get_or}
-use Rattle.rows.specs.Search.{Passed, found_first, found_none, passed_more, passed_none, within}
+use Rattle.rows.specs.Search.{Passed}
 use Rattle.seats.proofs.find.Given as goal
 
 abbrev pub invariant-loop-i : goal.invariant-loop-i

@@ -1,5 +1,4 @@
 -- `seats::free_row` meets its contract. Assumes nothing.
-use borrow.Author.Rules.{rules}
 use Rattle.seats.specs.RowPart.{freed-part}
 use Rattle.seats.proofs.free_row.Goals as goal
 

@@ -1,7 +1,6 @@
 -- `seats::give` meets its contract. Assumes nothing.
 use mathlib.Core.Path.{sym}
 use native.Mathlib.Omega.{arith}
-use borrow.Author.Rules.{rules}
 use Rattle.seats.specs.RowPart.{put_at, put_past}
 use Rattle.seats.proofs.give.Goals as goal
 

@@ -1,5 +1,4 @@
 -- `seats::head_of` meets its contract. Assumes nothing.
-use borrow.Author.Rules.{rules}
 use Rattle.seats.specs.Heads.{head_of}
 use Rattle.seats.proofs.head_of.Goals as goal
 

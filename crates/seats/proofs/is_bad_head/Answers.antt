@@ -2,7 +2,6 @@
 use mathlib.Core.Path.{◌≡◌}
 use mathlib.Core.Bool.{◌||◌}
 use borrow.Author.Tests.{le-leb, le-ltb, lt-leb, lt-ltb}
-use borrow.Author.Rules.{rules}
 use Rattle.rules.specs.Tests.{one_of}
 use Rattle.rules.specs.Refusals.{misplaced, late, bad_head}
 use Rattle.seats.specs.Heads.{head_row}

@@ -1,5 +1,4 @@
 -- `seats::is_late` meets its contract. Assumes nothing.
-use borrow.Author.Rules.{rules}
 use borrow.Author.Tests.{le-leb, lt-leb}
 use Rattle.rules.specs.Refusals.{late}
 use Rattle.seats.proofs.is_late.Goals as goal

@@ -1,5 +1,4 @@
 -- `seats::row_of` meets its contract. Assumes nothing.
-use borrow.Author.Rules.{rules}
 use Rattle.seats.specs.RowPart.{row-part}
 use Rattle.seats.proofs.row_of.Goals as goal
 

@@ -1,10 +1,7 @@
 -- `seats::some_bad_read` meets its contract. Assumes nothing.
-use Prim.Native.Nat.{◌-◌}
 use mathlib.Core.Path.{◌≡◌, ◌∙◌, sym}
-use native.Mathlib.Omega.{arith}
-use borrow.Author.Rules.{rules}
 use Rattle.rules.specs.Refusals.{bad_read}
-use Rattle.rows.specs.Search.{Passed, none_passes, passed_more, passed_none, some_passes}
+use Rattle.rows.specs.Search.{none_passes, passed_more, passed_none, some_passes}
 use Rattle.seats.proofs.some_bad_read.Goals as goal
 use Rattle.seats.proofs.some_bad_read.Goals.{After-is_bad_read}
 

@@ -1,11 +1,8 @@
 -- `seats::some_bad_write` meets its contract. Assumes nothing.
-use Prim.Native.Nat.{◌-◌}
 use mathlib.Core.Path.{sym}
-use native.Mathlib.Omega.{arith}
 use borrow.Author.Tests.{le-leb, lt-leb}
-use borrow.Author.Rules.{rules}
 use Rattle.rules.specs.Refusals.{bad_write}
-use Rattle.rows.specs.Search.{Passed, none_passes, passed_more, passed_none, some_passes}
+use Rattle.rows.specs.Search.{none_passes, passed_more, passed_none, some_passes}
 use Rattle.seats.proofs.some_bad_write.Goals as goal
 
 pub returns-then-records-at : goal.returns-then-records-at

@@ -1,10 +1,6 @@
 use Prim.Native.Nat.{◌-◌}
-use mathlib.Core.Path.{sym}
-use native.Mathlib.Omega.{arith}
-use borrow.Author.Tests.{le-leb, lt-leb}
-use borrow.Author.Rules.{rules}
 use Rattle.rules.specs.Refusals.{bad_write}
-use Rattle.rows.specs.Search.{Passed, none_passes, passed_more, passed_none, some_passes}
+use Rattle.rows.specs.Search.{Passed}
 use Rattle.seats.proofs.some_bad_write.Given as goal
 
 abbrev pub invariant-loop-i : goal.invariant-loop-i

@@ -12,7 +12,6 @@ use Rattle.tape.specs.Runs.{grown}
 use Rattle.tape.specs.Promises.{part, unfit_for}
 use Rattle.tape.specs.Room.{Fit, fit, text_room}
 use Rattle.tape.proofs.Shifted.{took, waits_few}
-use borrow.Author.Rules.{rules}
 use Rattle.tape.proofs.absorb.Goals as goal
 use Rattle.tape.proofs.absorb.Goals.{After-feed-r, Else-is_unfit}
 

@@ -2,7 +2,6 @@
 use Prim.Native.Nat.{◌<◌}
 use native.Mathlib.Omega.{arith}
 use lib.ListN.{length}
-use borrow.Author.Rules.{rules}
 use Rattle.tape.specs.Lines.{opening}
 use Rattle.text.specs.Text.{greatest}
 use Rattle.tape.proofs.Wholes.{calls_stopped, calls_end}

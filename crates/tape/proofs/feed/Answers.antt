@@ -13,9 +13,9 @@ use Rattle.turns.specs.declared.Turn.TheVariants.{Said}
 use Rattle.tape.specs.Lines.{State, turn_from, Fed, fed}
 use Rattle.text.specs.Text.{greatest}
 use Rattle.tape.specs.Inner.{state_of}
-use Rattle.tape.proofs.Running.{Going, going_start, Onward, taken_as, said, ran_waits, ran_stops, ran_all}
+use Rattle.tape.proofs.Running.{going_start, Onward, taken_as, said, ran_waits, ran_stops, ran_all}
 use Rattle.tape.proofs.feed.Goals as goal
-use Rattle.tape.proofs.feed.Invariants.{Stands, at_state}
+use Rattle.tape.proofs.feed.Invariants.{at_state}
 use Rattle.tape.proofs.feed.Goals.{After-take_turn-t}
 
 pub loop-used-init : goal.loop-used-init

@@ -1,17 +1,11 @@
-use Prim.Native.Nat.{ℕ, ◌+◌, ◌-◌, ◌≤◌, ◌<◌}
-use native.Mathlib.Omega.{arith}
-use native.Mathlib.Nat.{sub_self, sub-zero, add-zero, add_assoc}
-use mathlib.Core.Path.{◌≡◌, refl}
+use Prim.Native.Nat.{ℕ, ◌+◌, ◌-◌, ◌≤◌}
+use mathlib.Core.Path.{◌≡◌}
 use mathlib.Core.List.{List}
-use borrow.Author.Rules.{rules}
-use lib.ListN.{length, drop, length-drop}
-use lib.Seq.{take_all, drop-drop}
+use lib.ListN.{length, drop}
 use Rattle.rules.specs.Tables.{Tables, tables}
-use Rattle.turns.specs.Promises.{Taken}
-use Rattle.tape.specs.Lines.{State, turn_from, Fed, fed}
+use Rattle.tape.specs.Lines.{State, fed}
 use Rattle.text.specs.Text.{greatest}
-use Rattle.tape.specs.Inner.{state_of}
-use Rattle.tape.proofs.Running.{Going, going_start, Onward, taken_as, said, ran_waits, ran_stops, ran_all}
+use Rattle.tape.proofs.Running.{Going}
 use Rattle.tape.proofs.feed.Given as goal
 
 abbrev pub at_state : ℕ → ℕ → ℕ → Tables → State

@@ -1,5 +1,4 @@
 -- `tape::finish` meets its contract. Assumes nothing.
-use borrow.Author.Rules.{rules}
 use Rattle.tape.proofs.Wholes.{ends, cut_short_lem}
 use Rattle.tape.proofs.finish.Goals as goal
 

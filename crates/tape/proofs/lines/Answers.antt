@@ -2,10 +2,8 @@
 use Prim.Native.Nat.{◌-◌, ◌≤◌}
 use native.Mathlib.Omega.{arith}
 use mathlib.Core.Path.{◌≡◌}
-use mathlib.Core.Logic.{⊎_elim}
 use lib.ListN.{length, drop, get_or, length-drop}
 use lib.Seq.{take_all}
-use borrow.Author.Rules.{rules}
 use Rattle.tape.specs.Lines.{version, first_offset}
 use Rattle.tape.proofs.Wholes.{lines_one, no_byte, lines_bad}
 use Rattle.tape.proofs.lines.Goals as goal
@@ -23,8 +21,8 @@ pub returns : goal.returns
 returns c =
     let t = c.args.tape.now in
     let bad : get_or t 0 0 ≡ version → ⊥ =
-        elim c.if-tape-gt0.branch [
-          | then-tape-gt0+else-tape-eq-VERSION w ↦ w.if-tape-eq-VERSION.false
-          | else-tape-gt0 w ↦ no_byte t w.if-tape-gt0.false
-        ] in
+    elim c.if-tape-gt0.branch [
+      | then-tape-gt0+else-tape-eq-VERSION w ↦ w.if-tape-eq-VERSION.false
+      | else-tape-gt0 w ↦ no_byte t w.if-tape-gt0.false
+    ] in
     lines_bad t c.args.out.now _ _ bad (omega (arith, c.stop.type_inv)) c.stop.ensures

@@ -4,7 +4,6 @@ use native.Mathlib.Omega.{arith}
 use mathlib.Core.Path.{◌≡◌}
 use mathlib.Core.List.{[]}
 use lib.ListN.{length}
-use borrow.Author.Rules.{rules}
 use Rattle.text.specs.Text.{greatest}
 use Rattle.tape.proofs.Wholes.{nothing_of, run_fits, run-not}
 use Rattle.tape.proofs.run.Goals as goal

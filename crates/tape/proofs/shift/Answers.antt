@@ -1,14 +1,13 @@
 -- `tape::shift` meets its contract. Assumes nothing.
 use Rattle.tape.proofs.Shifted.{shift_step}
 use lib.Seq.{paste, paste-zero}
-use lib.ListN.{length, length-set, drop, get_or, set}
+use lib.ListN.{length-set, drop, get_or, set}
 use mathlib.Core.List.{List}
-use Prim.Native.Nat.{ℕ, ◌+◌, ◌≤◌, ◌-◌}
+use Prim.Native.Nat.{ℕ, ◌+◌, ◌-◌}
 use mathlib.Core.Path.{◌≡◌, ◌∙◌, ap, refl}
 use native.Mathlib.Omega.{arith}
 use borrow.Author.Rules.{rules}
 use Rattle.tape.proofs.shift.Goals as goal
-use Rattle.tape.proofs.shift.Invariants.{Moved}
 
 pub loop-i-init : goal.loop-i-init
 loop-i-init c =

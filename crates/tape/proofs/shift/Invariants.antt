@@ -1,11 +1,8 @@
-use Rattle.tape.proofs.Shifted.{shift_step}
-use lib.Seq.{paste, paste-zero}
-use lib.ListN.{length, length-set, drop, get_or, set}
+use lib.Seq.{paste}
+use lib.ListN.{length, drop}
 use mathlib.Core.List.{List}
-use Prim.Native.Nat.{ℕ, ◌+◌, ◌≤◌, ◌-◌}
-use mathlib.Core.Path.{◌≡◌, ◌∙◌, ap, refl}
-use native.Mathlib.Omega.{arith}
-use borrow.Author.Rules.{rules}
+use Prim.Native.Nat.{ℕ, ◌≤◌, ◌-◌}
+use mathlib.Core.Path.{◌≡◌}
 use Rattle.tape.proofs.shift.Given as goal
 
 -- the first i bytes have moved

@@ -1,7 +1,6 @@
 -- `tape::sum` meets its contract. Assumes nothing.
 use mathlib.Core.Path.{sym}
 use native.Mathlib.Omega.{arith}
-use borrow.Author.Rules.{rules}
 use borrow.Author.Tests.{lt-leb}
 use Rattle.text.specs.Text.{greatest}
 use Rattle.tape.proofs.Running.{capped_small}

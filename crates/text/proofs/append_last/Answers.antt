@@ -3,7 +3,6 @@ use Prim.Native.Nat.{ℕ, ◌+◌, ◌<◌}
 use mathlib.Core.Path.{◌≡◌, ◌∙◌}
 use native.Mathlib.Omega.{arith}
 use lib.ListN.{length}
-use borrow.Author.Rules.{rules}
 use Rattle.text.specs.Text.{last_line, Appended}
 use Rattle.text.specs.Puts.{length_last, put-fits, put-not}
 use Rattle.text.proofs.append_last.Goals as goal

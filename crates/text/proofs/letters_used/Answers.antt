@@ -2,7 +2,6 @@
 use mathlib.Core.Path.{sym, ◌∙◌}
 use native.Mathlib.Omega.{arith}
 use lib.Seq.{take_all, take-length}
-use borrow.Author.Rules.{rules}
 use Rattle.text.specs.Text.{most_letters}
 use Rattle.text.proofs.letters_used.Goals as goal
 

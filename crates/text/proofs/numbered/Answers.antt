@@ -4,7 +4,6 @@ use mathlib.Core.Path.{◌≡◌, sym}
 use native.Mathlib.Omega.{arith}
 use lib.ListN.{length, take}
 use lib.Seq.{length-take-le}
-use borrow.Author.Rules.{rules}
 use Rattle.text.proofs.numbered.Goals as goal
 use Rattle.text.proofs.numbered.Goals.{After-letters_used-len}
 

@@ -1,15 +1,11 @@
 -- `text::put_bytes` meets its contract. Assumes nothing.
 use Rattle.text.proofs.Laws.{sets-drop, sets-none}
 use native.Mathlib.Nat.{add-zero}
-use lib.Seq.{sets}
-use lib.ListN.{length, drop, length-set}
+use lib.ListN.{length-set}
 use native.Mathlib.Omega.{arith}
-use mathlib.Core.Path.{◌≡◌, ◌∙◌}
-use mathlib.Core.List.{List}
-use Prim.Native.Nat.{ℕ, ◌+◌, ◌≤◌, ◌-◌}
+use mathlib.Core.Path.{◌∙◌}
 use borrow.Author.Rules.{rules}
 use Rattle.text.proofs.put_bytes.Goals as goal
-use Rattle.text.proofs.put_bytes.Invariants.{Put}
 
 pub loop-i-init : goal.loop-i-init
 loop-i-init c = record { within = search rules; as_long = search rules; text = rw add-zero }

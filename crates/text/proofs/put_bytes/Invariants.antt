@@ -1,12 +1,8 @@
-use Rattle.text.proofs.Laws.{sets-drop, sets-none}
-use native.Mathlib.Nat.{add-zero}
 use lib.Seq.{sets}
-use lib.ListN.{length, drop, length-set}
-use native.Mathlib.Omega.{arith}
-use mathlib.Core.Path.{◌≡◌, ◌∙◌}
+use lib.ListN.{length, drop}
+use mathlib.Core.Path.{◌≡◌}
 use mathlib.Core.List.{List}
 use Prim.Native.Nat.{ℕ, ◌+◌, ◌≤◌, ◌-◌}
-use borrow.Author.Rules.{rules}
 use Rattle.text.proofs.put_bytes.Given as goal
 
 -- the first i bytes are put

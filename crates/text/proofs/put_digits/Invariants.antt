@@ -1,12 +1,9 @@
-use Rattle.text.proofs.Laws.{digits_back, digits-none}
 use Rattle.text.specs.Text.{digits}
 use lib.Seq.{sets}
-use lib.ListN.{length, length-set}
-use native.Mathlib.Omega.{arith}
-use mathlib.Core.Path.{◌≡◌, ◌∙◌}
+use lib.ListN.{length}
+use mathlib.Core.Path.{◌≡◌}
 use mathlib.Core.List.{List}
 use Prim.Native.Nat.{ℕ, ◌≤◌}
-use borrow.Author.Rules.{rules}
 use Rattle.text.proofs.put_digits.Given as goal
 
 -- i digits are to be put, those of `rest`

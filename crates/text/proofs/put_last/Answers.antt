@@ -3,7 +3,6 @@ use Prim.Native.Nat.{◌+◌}
 use mathlib.Core.Path.{◌≡◌}
 use native.Mathlib.Omega.{arith}
 use lib.ListN.{length, set, length-set}
-use borrow.Author.Rules.{rules}
 use Rattle.text.proofs.Laws.{last_put}
 use Rattle.text.proofs.put_last.Goals as goal
 use Rattle.text.proofs.put_last.Goals.{After-put_bytes}

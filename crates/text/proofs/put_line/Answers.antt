@@ -2,7 +2,6 @@
 use Prim.Native.Nat.{◌+◌}
 use native.Mathlib.Omega.{arith}
 use lib.ListN.{length-set}
-use borrow.Author.Rules.{rules}
 use Rattle.text.proofs.Laws.{line-put}
 use Rattle.text.proofs.put_line.Goals as goal
 

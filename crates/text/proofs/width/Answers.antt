@@ -1,10 +1,9 @@
 -- `text::width` meets its contract. Assumes nothing.
 use Rattle.text.proofs.Laws.{width_more, width_end}
-use Rattle.text.specs.Text.{most_digits, width_in, width_of}
+use Rattle.text.specs.Text.{most_digits, width_of}
 use Rattle.text.specs.Puts.{width_done}
 use native.Mathlib.Omega.{arith}
-use mathlib.Core.Path.{◌≡◌}
-use Prim.Native.Nat.{◌+◌, ◌≤◌, ◌-◌}
+use Prim.Native.Nat.{◌-◌}
 use borrow.Author.Rules.{rules}
 use Rattle.text.proofs.width.Goals as goal
 

@@ -1,10 +1,6 @@
-use Rattle.text.proofs.Laws.{width_more, width_end}
 use Rattle.text.specs.Text.{most_digits, width_in, width_of}
-use Rattle.text.specs.Puts.{width_done}
-use native.Mathlib.Omega.{arith}
 use mathlib.Core.Path.{◌≡◌}
 use Prim.Native.Nat.{◌+◌, ◌≤◌, ◌-◌}
-use borrow.Author.Rules.{rules}
 use Rattle.text.proofs.width.Given as goal
 
 abbrev pub invariant-loop-k : goal.invariant-loop-k

@@ -1,6 +1,5 @@
 -- `turns::body_turn` meets its contract. Assumes nothing.
 use mathlib.Core.Path.{sym, ◌∙◌}
-use borrow.Author.Rules.{rules}
 use Rattle.turns.specs.Turns.{body_turn}
 use Rattle.turns.proofs.Turning.{plan-fits, stop_taken}
 use Rattle.turns.proofs.body_turn.Goals as goal

@@ -1,6 +1,5 @@
 -- `turns::call_turn` meets its contract. Assumes nothing.
 use native.Mathlib.Omega.{arith}
-use borrow.Author.Rules.{rules}
 use Rattle.turns.proofs.Turning.{call_taken}
 use Rattle.turns.proofs.call_turn.Goals as goal
 

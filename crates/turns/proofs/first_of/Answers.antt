@@ -3,7 +3,6 @@ use mathlib.Core.Path.{sym, ◌∙◌}
 use native.Mathlib.Omega.{arith}
 use lib.ListN.{drop_of_length-le}
 use lib.Seq.{take_all}
-use borrow.Author.Rules.{rules}
 use Rattle.turns.proofs.first_of.Goals as goal
 
 -- a table of fewer places: all of it, and nothing behind

@@ -12,7 +12,6 @@ use Rattle.rules.specs.Calls.{step}
 use Rattle.rules.specs.declared.Answer.{Answer}
 use Rattle.turns.specs.Calls.{first_records, given_back, performed}
 use Rattle.turns.proofs.Lending.{unchanged, given_back_lem}
-use borrow.Author.Rules.{rules}
 use Rattle.turns.proofs.perform.Goals as goal
 use Rattle.turns.proofs.perform.Goals.{After-first_of-m}
 

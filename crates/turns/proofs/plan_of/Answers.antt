@@ -1,16 +1,14 @@
 -- `turns::plan_of` meets its contract: the numbers before place i are the plan's. Assumes nothing.
-use mathlib.Core.List.{List}
-use Prim.Native.Nat.{ℕ, ◌+◌, ◌-◌, ◌≤◌}
+use Prim.Native.Nat.{◌+◌}
 use native.Mathlib.Omega.{arith}
-use mathlib.Core.Path.{◌≡◌, refl, sym}
+use mathlib.Core.Path.{refl, sym}
 use borrow.Author.Rules.{rules}
-use lib.ListN.{length, take, drop, length-set, length-drop}
+use lib.ListN.{drop, length-set, length-drop}
 use lib.Seq.{get_or-drop}
 use Rattle.turns.proofs.Copies.{copied_more, copied_all}
 use Rattle.rules.specs.Layout.{plan_width}
 use Rattle.frames.specs.Decode.{plan_from}
 use Rattle.turns.proofs.plan_of.Goals as goal
-use Rattle.turns.proofs.plan_of.Invariants.{Read}
 
 pub loop-i-init : goal.loop-i-init
 loop-i-init c = record { within = search rules; as_long = refl; same = refl }

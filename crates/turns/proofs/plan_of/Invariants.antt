@@ -1,11 +1,7 @@
 use mathlib.Core.List.{List}
-use Prim.Native.Nat.{ℕ, ◌+◌, ◌-◌, ◌≤◌}
-use native.Mathlib.Omega.{arith}
-use mathlib.Core.Path.{◌≡◌, refl, sym}
-use borrow.Author.Rules.{rules}
-use lib.ListN.{length, take, drop, length-set, length-drop}
-use lib.Seq.{get_or-drop}
-use Rattle.turns.proofs.Copies.{copied_more, copied_all}
+use Prim.Native.Nat.{ℕ, ◌-◌, ◌≤◌}
+use mathlib.Core.Path.{◌≡◌}
+use lib.ListN.{length, take, drop}
 use Rattle.rules.specs.Layout.{plan_width}
 use Rattle.frames.specs.Decode.{plan_from}
 use Rattle.turns.proofs.plan_of.Given as goal

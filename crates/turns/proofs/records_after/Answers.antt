@@ -1,7 +1,6 @@
 -- `turns::records_after` meets its contract. Assumes nothing.
 use mathlib.Core.Path.{sym, ◌∙◌}
 use borrow.Author.Tests.{eq-eqb, ne_eqb}
-use borrow.Author.Rules.{rules}
 use Rattle.turns.proofs.Lending.{lends_as_before}
 use Rattle.turns.proofs.records_after.Goals as goal
 

@@ -5,7 +5,6 @@ use lib.ListN.{take}
 use lib.Seq.{length-take-le, take_all}
 use Rattle.text.specs.Text.{most_letters}
 use Rattle.answers.specs.Spelling.{Spells, spells_as}
-use borrow.Author.Rules.{rules}
 use Rattle.turns.proofs.say.Goals as goal
 use Rattle.turns.proofs.say.Goals.{After-spell-spelled}
 

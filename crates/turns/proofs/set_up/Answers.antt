@@ -9,7 +9,6 @@ use Rattle.rules.specs.Calls.{Setup, step}
 use Rattle.turns.specs.Calls.{on_first}
 use Rattle.turns.specs.Laws.{setup_again_lem, setup_many, setup-lent}
 use Rattle.turns.proofs.Lending.{unchanged, given_back_lem}
-use borrow.Author.Rules.{rules}
 use Rattle.turns.proofs.set_up.Goals as goal
 
 pub returns-then-records-gt0 : goal.returns-then-records-gt0

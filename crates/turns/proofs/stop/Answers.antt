@@ -1,5 +1,4 @@
 -- `turns::stop` meets its contract: each fault's line is spelled out in the code. Assumes nothing.
-use borrow.Author.Rules.{rules}
 use Rattle.text.specs.Text.{width_in, width_of, digits, decimal}
 use Rattle.turns.specs.Faults.{stop_line}
 use Rattle.turns.proofs.stop.Goals as goal

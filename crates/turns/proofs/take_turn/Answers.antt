@@ -1,10 +1,9 @@
 -- `turns::take_turn` meets its contract. Assumes nothing.
-use Prim.Native.Nat.{ℕ, ◌+◌, ◌≤◌}
+use Prim.Native.Nat.{◌+◌, ◌≤◌}
 use mathlib.Core.Path.{◌≡◌, refl, sym, ◌∙◌}
 use native.Mathlib.Omega.{arith}
 use native.Mathlib.Nat.{add-sub_cancel_left}
 use lib.ListN.{length}
-use borrow.Author.Rules.{rules}
 use Rattle.frames.specs.declared.Frame.TheVariants.{Body}
 use Rattle.frames.specs.Decode.{length_size, frame_of}
 use Rattle.turns.specs.Turns.{turn_of, frame_turn}

@@ -1,11 +1,8 @@
 -- `work::place_of` meets its contract. Assumes nothing.
-use Prim.Native.Nat.{◌-◌}
 use mathlib.Core.Path.{sym}
-use native.Mathlib.Omega.{arith}
 use borrow.Author.Tests.{le-ltb, lt-ltb}
-use borrow.Author.Rules.{rules}
 use Rattle.rules.specs.Work.{above}
-use Rattle.rows.specs.Search.{Passed, found_first, found_none, passed_more, passed_none}
+use Rattle.rows.specs.Search.{found_first, found_none, passed_more, passed_none}
 use Rattle.work.proofs.place_of.Goals as goal
 
 pub returns-then-item-at : goal.returns-then-item-at

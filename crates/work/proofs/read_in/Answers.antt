@@ -1,10 +1,7 @@
 -- `work::read_in` meets its contract. Assumes nothing.
-use Prim.Native.Nat.{ℕ}
 use mathlib.Core.Path.{◌≡◌}
-use mathlib.Core.List.{List}
 use native.Mathlib.Omega.{arith}
 use borrow.Author.Tests.{le-ltb, lt-ltb}
-use borrow.Author.Rules.{rules}
 use Rattle.rules.specs.Layout.{row}
 use Rattle.rules.specs.Work.{read_in, read_of, write_of}
 use Rattle.seats.specs.Outcomes.{entry_at, read_of_lem, write_of_lem}

@@ -1,11 +1,6 @@
 -- `work::slide` meets its contract. Assumes nothing.
-use Prim.Native.Nat.{◌-◌, ◌≤◌}
-use mathlib.Core.Path.{◌∙◌, ◌≡◌, refl, sym}
+use mathlib.Core.Path.{◌∙◌, refl, sym}
 use native.Mathlib.Omega.{arith}
-use borrow.Author.Rules.{rules}
-use lib.ListN.{length}
-use Rattle.rules.specs.Layout.{write_width}
-use Rattle.rules.specs.Work.{slid}
 use Rattle.seats.specs.Outcomes.{entry_at}
 use Rattle.work.proofs.Slides.{slid_end, slid_more, slid-none}
 use Rattle.work.proofs.slide.Goals as goal

@@ -1,8 +1,7 @@
 -- `work::write` meets its contract. Assumes nothing.
 use mathlib.Core.Path.{◌∙◌, sym}
 use native.Mathlib.Omega.{arith}
-use borrow.Author.Rules.{rules}
-use Rattle.rules.specs.Tables.{Tables, tables}
+use Rattle.rules.specs.Tables.{tables}
 use Rattle.rules.specs.Work.{write}
 use Rattle.seats.specs.Ready.{in_use, ready_call, refused_call}
 use Rattle.work.proofs.write.Goals as goal

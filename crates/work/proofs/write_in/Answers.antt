@@ -1,10 +1,7 @@
 -- `work::write_in` meets its contract. Assumes nothing.
-use Prim.Native.Nat.{ℕ}
 use mathlib.Core.Path.{◌≡◌, refl}
-use mathlib.Core.List.{List}
 use native.Mathlib.Omega.{arith}
 use borrow.Author.Tests.{le-leb, le-ltb, lt-leb, lt-ltb}
-use borrow.Author.Rules.{rules}
 use Rattle.rules.specs.Layout.{row}
 use Rattle.rules.specs.Work.{write_in, write_of}
 use Rattle.rows.specs.Search.{first_le}
