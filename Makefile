@@ -37,7 +37,7 @@ install: ## monitor, tape, the header and the archive: make install PREFIX=/usr/
 
 ## The gate
 
-test: ## every test and every proof: the quick checks, all proofs from nothing, then the comparisons
+test: ## every test and every proof: the quick checks, all proofs, then the comparisons
 	@tools/locked tools/gate
 
 ## The quick checks
@@ -54,8 +54,7 @@ promises: ## whether every public function promises one result, and whether this
 	tools/promises
 	tools/promises --selftest
 
-lint: ## the layout of every file in Rattle, antt and Rust, and what clippy finds in the Rust
-	rt fmt --check
+lint: ## the layout of every file in Rust, and what clippy finds there; `rt ci` refuses a file in Rattle or antt that is not laid out
 	$(CARGO) fmt $(PACKAGE) --check
 	$(CARGO) clippy $(HARNESS) --bins -- -D warnings
 	$(CARGO) clippy $(HARNESS) $(FEATURES) --all-targets -- -D warnings
