@@ -115,4 +115,5 @@ pub quick_history_lem : (t : Tables) (cs : List Call) → history t cs ≡ quick
 unfolding history quick_history
 quick_history_lem t [] = refl
 quick_history_lem t (c ∷ cs) =
-    rw (quick_step_lem t c) (ap (λ (es : List Event). record { call = c; answer = (quick_step t c).answer } ∷ es) (quick_history_lem (quick_step t c).tables cs))
+    rw (quick_step_lem t c)
+    (ap (λ (es : List Event). record { call = c; answer = (quick_step t c).answer } ∷ es) (quick_history_lem (quick_step t c).tables cs))

@@ -6,7 +6,8 @@ ghost use Rattle.clock.specs.Word.{top, is_locked, write_time, read_time, fresh,
 ghost use Rattle.rules.specs.Layout.{most_reads, most_writes, row, time as time_of};
 ghost use Rattle.rules.specs.Tables.{Tables};
 ghost use Rattle.rules.specs.Lent.{lent, left, lent_locks, left_locks, lent_seats, left_seats};
-ghost use Rattle.rules.specs.Advance.{held_locks, released, let_go, moved, lock_step, seen_time, due_time, time_step, is_blocked, by_word, passed_to, check_step};
+ghost use Rattle.rules.specs.Advance.{held_locks, released, let_go, moved, lock_step, seen_time};
+ghost use Rattle.rules.specs.Advance.{due_time, time_step, is_blocked, by_word, passed_to, check_step};
 ghost use Rattle.rules.specs.Advance.{seal_step, store_step, done_step, lock_phase, check_phase, store_phase, advance_in};
 ghost use Rattle.rules.specs.declared.Answer.{Answer};
 ghost use Rattle.rules.specs.declared.Answer.TheVariants.{Aborted};

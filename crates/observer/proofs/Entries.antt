@@ -23,11 +23,13 @@ first_reads g = seg (read_at g) 0 (reads g)
 abbrev pub write_entries : List ℕ → List WriteEntry
 write_entries g = seg (write_at g) 0 (writes g)
 
-pub read_same : (g h : List ℕ) (i j : ℕ) → get_or h (read_item_at j) 0 ≡ get_or g (read_item_at i) 0 → get_or h (read_value_at j) 0 ≡ get_or g (read_value_at i) 0 →
+pub read_same : (g h : List ℕ) (i j : ℕ)
+    → get_or h (read_item_at j) 0 ≡ get_or g (read_item_at i) 0 → get_or h (read_value_at j) 0 ≡ get_or g (read_value_at i) 0 →
     read_at h j ≡ read_at g i
 read_same g h i j a b = λ z. record { item = a z; value = b z }
 
-pub write_same : (g h : List ℕ) (i j : ℕ) → get_or h (write_item_at j) 0 ≡ get_or g (write_item_at i) 0 → get_or h (write_value_at j) 0 ≡ get_or g (write_value_at i) 0 →
+pub write_same : (g h : List ℕ) (i j : ℕ)
+    → get_or h (write_item_at j) 0 ≡ get_or g (write_item_at i) 0 → get_or h (write_value_at j) 0 ≡ get_or g (write_value_at i) 0 →
     write_at h j ≡ write_at g i
 write_same g h i j a b = λ z. record { item = a z; value = b z }
 

@@ -279,7 +279,8 @@ module _ (t : Tables) (s : ℕ) (k : InOrder t) (u : Used (length t.words) (row 
         write_in_lem = λ j l. put_all put_in (λ y. y < length t.words) inside e.write_in_lem j (omega arith);
         distinct = λ p q a l. rw (rd p (omega arith), rd q (omega arith)) (e.distinct p q a (omega arith));
         ascending = λ p q a l. put_ascending put_in before over e.ascending p q a (omega arith);
-        ordered = λ j l. rw (front (kept_write_at j) (omega arith) (omega arith), front (kept_read_at j) (omega arith) (omega arith)) (e.ordered j (omega arith));
+        ordered =
+            λ j l. rw (front (kept_write_at j) (omega arith) (omega arith), front (kept_read_at j) (omega arith) (omega arith)) (e.ordered j (omega arith));
         kept_timely = λ j l. rw (front (kept_read_at j) (omega arith) (omega arith)) (e.kept_timely j (omega arith));
         no_read = λ f a l. front f (omega arith) (omega arith) ∙ e.no_read f (omega arith) l;
         no_write = λ f a l. z.behind f (omega arith) ∙ e.no_write f (omega arith) l;

@@ -65,7 +65,8 @@ pub released-miss : (words g : List ℕ) (n x : ℕ) → ((i : ℕ) → i < n �
 unfolding released
 released-miss words g zero x h = refl
 released-miss words g (suc n) x h =
-    get_or-set_other (released words g n) (write_item g n) x (with_lock false (get_or (released words g n) (write_item g n) 0)) 0 (λ k. h n (omega arith) (sym k))
+    get_or-set_other (released words g n) (write_item g n) x (with_lock false (get_or (released words g n) (write_item g n) 0)) 0
+    (λ k. h n (omega arith) (sym k))
     ∙ released-miss words g n x (λ i l. h i (omega arith))
 
 -- AN ANSWER THAT ENDS a transaction

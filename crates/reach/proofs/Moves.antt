@@ -14,7 +14,8 @@ use Rattle.rules.specs.Layout.{seat_count, seats_length, position_at, time_at, w
 use Rattle.rules.specs.Layout.{kept_write, write_item, write_value}
 use Rattle.rules.specs.Places.{length-row}
 use Rattle.rules.specs.Tables.{Tables, answered, tables, with_seats, with_words}
-use Rattle.rules.specs.Advance.{moved, lock_step, commit_time, time_step, verdict, check_item, judged, stretched, passed, ruled, check_step, passed_to, version_gone}
+use Rattle.rules.specs.Advance.{moved, lock_step, commit_time, time_step, verdict, check_item, judged}
+use Rattle.rules.specs.Advance.{stretched, passed, ruled, check_step, passed_to, version_gone}
 use Rattle.rules.specs.Advance.{word_locked}
 use Rattle.rules.specs.Advance.{time_run_out}
 use Rattle.rules.specs.Advance.{by_word}
@@ -116,7 +117,8 @@ module _ (t : Tables) (s : ℕ) (size : length t.seats ≡ seats_length) (small 
       let ph = steps_early h (omega arith) in
       let now = with_lock_is true word in
       let taken : locks h x ≡ true =
-      named_yes (write_item h) (lock_from h) (lock_to h) x (position g) (record { from = omega arith; below = omega arith; named = ent (position g) ∙ sym ex }) in
+      named_yes (write_item h) (lock_from h) (lock_to h) x (position g)
+      (record { from = omega arith; below = omega arith; named = ent (position g) ∙ sym ex }) in
       let others : (z : ℕ) → x ≢ z → locks h z ≡ locks g z =
       (λ z d. named-same (write_item g) (write_item h) (lock_from g) (lock_to g) (lock_from h) (lock_to h) z
       (λ i r. let a = r.below in record { from = omega arith; below = omega arith; named = ent i ∙ r.named })

@@ -10,7 +10,8 @@ use lib.Dec.{eqb, ltb, leb}
 use lib.ListN.{length, get_or}
 use Rattle.clock.specs.Word.{is_locked}
 use Rattle.rules.specs.Tests.{any, count, one_of, first_of}
-use Rattle.rules.specs.Layout.{owners, seat_count, most_reads, most_writes, share_at, limit_at, row, phase, owner, reads, writes, share, storing, checking, working}
+use Rattle.rules.specs.Layout.{owners, seat_count, most_reads, most_writes, share_at, limit_at, row, phase}
+use Rattle.rules.specs.Layout.{owner, reads, writes, share, storing, checking, working}
 use Rattle.rules.specs.Tables.{Tables, Outcome, unless}
 use Rattle.rules.specs.Refusals.{misnamed, foreign, refusal, seat_refusal, row_refusal, record_refusal}
 use Rattle.rules.specs.Plan.{setup_refusal, setup, claim, claims, crowded, open_refusal, open_seat}
@@ -175,7 +176,8 @@ module _ (t : Tables) (z : Reached t) where
       by (leb owners o)
       (λ e. open_no_owner t k o (leb-true owners o e) ∙ rw e refl)
       (λ e. let low = leb-false owners o e in
-      rw (open_refusal_lem t k o low, e, held-seen t z o, claims_are, plan-stays t z (share_at o) (omega arith), plan-stays t z (limit_at o) (omega arith)) refl)
+      rw (open_refusal_lem t k o low, e, held-seen t z o, claims_are, plan-stays t z (share_at o) (omega arith),
+        plan-stays t z (limit_at o) (omega arith)) refl)
 
   -- SETUP, over tables whose lengths a Setup has accepted
   setup_is : (start : ℕ) (plan : List ℕ) → setup_refusal t start plan ≡ due (records z) (seen z) (Setup start plan)

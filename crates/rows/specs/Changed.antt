@@ -187,7 +187,8 @@ noted-row g item value kept_w kept_r size room =
     head : (f : ℕ) → f ≢ reads_at → get_or (set g4 reads_at (n + 1)) f 0 ≡ get_or g4 f 0
     head f d = get_or-set_other g4 reads_at f (n + 1) 0 d
 
-    rest : (f : ℕ) → f ≢ reads_at → f ≢ read_item_at n → f ≢ read_value_at n → f ≢ kept_write_at n → f ≢ kept_read_at n → get_or (set g4 reads_at (n + 1)) f 0 ≡ get_or g f 0
+    rest : (f : ℕ) → f ≢ reads_at → f ≢ read_item_at n → f ≢ read_value_at n → f ≢ kept_write_at n → f ≢ kept_read_at n
+        → get_or (set g4 reads_at (n + 1)) f 0 ≡ get_or g f 0
     rest f d a b c e =
         head f d ∙ get_or-set_other g3 (kept_read_at n) f kept_r 0 e ∙ get_or-set_other g2 (kept_write_at n) f kept_w 0 c
         ∙ get_or-set_other g1 (read_value_at n) f value 0 b ∙ get_or-set_other g (read_item_at n) f item 0 a
@@ -230,7 +231,8 @@ module _ (g : List ℕ) (e w : ℕ) where
 unfoldable pub placed_row : List ℕ → ℕ → ℕ → ℕ → List ℕ
 placed_row g i item value =
     let n : ℕ = writes g in
-    set (set (set (slid_row g (write_item_at n) write_width (write_item_at n - write_item_at i)) (write_item_at i) item) (write_value_at i) value) writes_at (n + 1)
+    set (set (set (slid_row g (write_item_at n) write_width (write_item_at n - write_item_at i)) (write_item_at i) item) (write_value_at i) value)
+    writes_at (n + 1)
 
 pub record WithWrite (g h : List ℕ) (i item value : ℕ) : Type 0 where
   pub size : length h ≡ row_width

@@ -8,7 +8,8 @@ use Rattle.rules.specs.Layout.{owners, seat_count, most_records, most_reads, mos
 use Rattle.rules.specs.Layout.{reads, writes, time, read_item, kept_write, write_item}
 use Rattle.rules.specs.Places.{length-row}
 use Rattle.rules.specs.Tables.{Tables}
-use Rattle.rules.specs.Refusals.{unsized, misnamed, misplaced, late, bad_read, bad_write, bad_head, bad_entry, damaged, foreign, row_refusal, refusal, record_refusal}
+use Rattle.rules.specs.Refusals.{unsized, misnamed, misplaced, late, bad_read, bad_write, bad_head}
+use Rattle.rules.specs.Refusals.{bad_entry, damaged, foreign, row_refusal, refusal, record_refusal}
 use Rattle.rules.specs.Advance.{held_locks}
 use Rattle.rows.specs.Search.{none_at}
 

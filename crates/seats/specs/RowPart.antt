@@ -40,7 +40,8 @@ pub put_past : (l : List ℕ) (s f v : ℕ) → length l ≤ row_at s + f → pu
 unfolding put
 put_past l s f v h = set_out l (row_at s + f) v h
 
-pub put_at : (l : List ℕ) (s f v : ℕ) {from : ℕ} {m : List ℕ} → from ≡ min (row_at s) (length l) → f < length l - from → m ≡ set l (from + f) v → m ≡ put l s f v
+pub put_at : (l : List ℕ) (s f v : ℕ) {from : ℕ} {m : List ℕ} → from ≡ min (row_at s) (length l) → f < length l - from
+    → m ≡ set l (from + f) v → m ≡ put l s f v
 unfolding put
 put_at l s f v b h e = e ∙ ap (λ (k : ℕ). set l (k + f) v) (let z : _ ≡ row_at s = omega arith in z)
 

@@ -105,7 +105,8 @@ module _ (u : ℕ) where
   run_to-late (T ∷ S) item v h = ap (run_to u S item) (one-late u T item v (h T (here refl))) ∙ run_to-late S item v (λ U i. h U (there i))
 
   -- none of S is later than u
-  pub run_to_all : (S : List Transaction) (f : Values) (item : ℕ) → ((U : Transaction) → In U S → U.key ≤ u) → run_to u S item (f item) ≡ values_after_all S f item
+  pub run_to_all : (S : List Transaction) (f : Values) (item : ℕ) → ((U : Transaction) → In U S → U.key ≤ u)
+      → run_to u S item (f item) ≡ values_after_all S f item
   unfolding run_to values_after_all
   run_to_all [] f item h = refl
   run_to_all (T ∷ S) f item h = ap (run_to u S item) (one_up u T item (f item) (h T (here refl))) ∙ run_to_all S (values_after T f) item (λ U i. h U (there i))

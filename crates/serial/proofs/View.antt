@@ -68,7 +68,8 @@ unfolding seg
 view-working n g a b = view_early n g (omega arith) (omega arith) ∙ rw b
 
 -- entries are the same where their numbers are
-pub entry_same : (g h : List ℕ) (i : ℕ) → get_or h (read_item_at i) 0 ≡ get_or g (read_item_at i) 0 → get_or h (read_value_at i) 0 ≡ get_or g (read_value_at i) 0 →
+pub entry_same : (g h : List ℕ) (i : ℕ)
+    → get_or h (read_item_at i) 0 ≡ get_or g (read_item_at i) 0 → get_or h (read_value_at i) 0 ≡ get_or g (read_value_at i) 0 →
     get_or h (kept_write_at i) 0 ≡ get_or g (kept_write_at i) 0 → get_or h (kept_read_at i) 0 ≡ get_or g (kept_read_at i) 0 → entry_at h i ≡ entry_at g i
 entry_same g h i a b c d = λ z. record { told = record { item = a z; value = b z }; kept_write = c z; kept_read = d z }
 
@@ -92,7 +93,8 @@ module _ {g h : List ℕ} {item value kept_w kept_r : ℕ} (n : WithRead g h ite
       entry_same g h i (n.before (read_item_at i) (omega arith) (omega arith)) (n.before (read_value_at i) (omega arith) (omega arith))
       (n.before (kept_write_at i) (omega arith) (omega arith)) (n.before (kept_read_at i) (omega arith) (omega arith))
 
-  pub noted-read_entries : read_entries h ≡ read_entries g ++ (record { told = record { item = item; value = value }; kept_write = kept_w; kept_read = kept_r } ∷ [])
+  pub noted-read_entries : read_entries h
+      ≡ read_entries g ++ (record { told = record { item = item; value = value }; kept_write = kept_w; kept_read = kept_r } ∷ [])
   noted-read_entries =
       ap (seg (entry_at h) 0) n.count
       ∙ seg_more (entry_at h) (reads g)

@@ -13,7 +13,8 @@ use Rattle.cases.specs.Quick.{quick_history_lem}
 use Rattle.cases.specs.Cases.{blank, plan, computed, Case, tape, Plays, P8, TapeX, table, tape_x}
 use Rattle.rules.specs.declared.Answer.{Answer}
 use Rattle.rules.specs.declared.Answer.TheVariants.{Ready, Seat, Value, Noted, Locked, Timed, Checked, Sealed, Stored, Done}
-use Rattle.observer.specs.Observer.{FirstRead, Transaction, Observer, nothing, has, is_known, on_read, folded, renewed, inserted, on_write, on_advance, on_abandon}
+use Rattle.observer.specs.Observer.{FirstRead, Transaction, Observer, nothing, has, is_known, on_read}
+use Rattle.observer.specs.Observer.{folded, renewed, inserted, on_write, on_advance, on_abandon}
 use Rattle.observer.specs.Observer.{changed, observe, observed}
 use Rattle.serial.specs.Statement.{Values, precedes, ranked, all_ranked, serial, written, values_after_all, Right, AllStored}
 

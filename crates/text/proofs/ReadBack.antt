@@ -1,6 +1,7 @@
 -- A number's text read back: `decimal n` says n, and is the only text of digits with no leading zero that does.
 use Rattle.std.specs.Prelude.{ℕ, zero, suc, ◌+◌, ◌-◌, ◌*◌, ◌/◌, ◌%◌, ◌^◌, ◌≤◌, ◌<◌, ◌≡◌, refl, List, [], ◌∷◌, ◌++◌}
-use Rattle.std.proofs.Common.{arith, zero-add, add-zero, suc-add, add-suc, mul_assoc, le_trans, le-add_right, mul-le-mul_right, ap, sym, ◌∙◌, append_assoc, append-nil}
+use Rattle.std.proofs.Common.{arith, zero-add, add-zero, suc-add, add-suc, mul_assoc, le_trans}
+use Rattle.std.proofs.Common.{le-add_right, mul-le-mul_right, ap, sym, ◌∙◌, append_assoc, append-nil}
 use Rattle.std.proofs.Math.Decide.{dec_lt, dec_le}
 use Rattle.std.proofs.Math.Nat.{pow-succ', pow-le-pow_right}
 use Rattle.std.proofs.Math.ListN.{length, get_or-append}

@@ -25,10 +25,11 @@ loop-tries-preserved c =
 
 pub returns-in-Ok : goal.returns-in-Ok
 returns-in-Ok c =
-    let inv = c.loop-tries.invariant in
+    let L = c.loop-tries in
+    let inv = L.invariant in
     record {
       behind = search rules;
-      within = omega (arith, inv.as_long, c.in-Ok.ensures.bound, c.read.auto.buf, mid_len c.args.waiting (length c.loop-tries.buf) c.loop-tries.buf (omega arith));
+      within = omega (arith, inv.as_long, c.in-Ok.ensures.bound, c.read.auto.buf, mid_len c.args.waiting (length L.buf) L.buf (omega arith));
       stays = waits_still c.args.waiting c.read.new.buf c.requires inv;
     }
 

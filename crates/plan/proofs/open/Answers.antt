@@ -22,11 +22,14 @@ sized t is fits = sym is ∙ fits
 
 pub returns-then-owner-ge-OWNERS : goal.returns-then-owner-ge-OWNERS
 unfolding open_seat open_refusal
-returns-then-owner-ge-OWNERS c = simp (sized (tables c.args.values.now c.args.words.now c.args.seats.now) c.is_unsized.ensures c.if-is_unsized.false, le-leb _ _ c.if-owner-ge-OWNERS.true)
+returns-then-owner-ge-OWNERS c =
+    let found = tables c.args.values.now c.args.words.now c.args.seats.now in
+    simp (sized found c.is_unsized.ensures c.if-is_unsized.false, le-leb _ _ c.if-owner-ge-OWNERS.true)
 
 pub take_census-rows-requires : goal.take_census-rows-requires
 take_census-rows-requires c =
-    record { whole = (sized_of (tables c.args.values.now c.args.words.now c.args.seats.now) (sized (tables c.args.values.now c.args.words.now c.args.seats.now) c.is_unsized.ensures c.if-is_unsized.false)).rows; none = counts_none _ }
+    let found = tables c.args.values.now c.args.words.now c.args.seats.now in
+    record { whole = (sized_of found (sized found c.is_unsized.ensures c.if-is_unsized.false)).rows; none = counts_none _ }
 
 pub plan_refusal-why-requires : goal.plan_refusal-why-requires
 plan_refusal-why-requires c =
@@ -35,7 +38,8 @@ plan_refusal-why-requires c =
 -- THE OWNER IS ONE: the plan decides
 refusal_is : (c : After-plan_refusal-why) → open_refusal (tables c.args.values.now c.args.words.now c.args.seats.now) c.args.owner ≡ c.plan_refusal-why.result
 refusal_is c =
-    by-plan (tables c.args.values.now c.args.words.now c.args.seats.now) _ (sized _ c.is_unsized.ensures c.if-is_unsized.false) c.if-owner-ge-OWNERS.false ∙ sym c.plan_refusal-why.ensures
+    let found = tables c.args.values.now c.args.words.now c.args.seats.now in
+    by-plan found _ (sized _ c.is_unsized.ensures c.if-is_unsized.false) c.if-owner-ge-OWNERS.false ∙ sym c.plan_refusal-why.ensures
 
 pub returns-then-why-ne0 : goal.returns-then-why-ne0
 unfolding open_seat

@@ -43,17 +43,22 @@ by_limits seats is good row_is none = by_rows seats is good ∙ simp (← row_is
 
 pub returns-then-some_over : goal.returns-then-some_over
 unfolding plan_refusal one_of
-returns-then-some_over c = simp (by_limits _ c.is_bad_plan.ensures c.if-is_bad_plan.false c.requires.census.bad_is c.if-rows.false, ← c.some_over.ensures, c.if-some_over.true)
+returns-then-some_over c =
+    let limits_left = by_limits _ c.is_bad_plan.ensures c.if-is_bad_plan.false c.requires.census.bad_is c.if-rows.false in
+    simp (limits_left, ← c.some_over.ensures, c.if-some_over.true)
 
 -- NO OWNER OVER ITS LIMIT: U is left
 pub claim_sum-claims-requires : goal.claim_sum-claims-requires
 claim_sum-claims-requires c =
-    record { counts_are = counts_are (goal.at.claim_sum-claims-requires c).Else-rows; plan_good = plan_good (goal.at.claim_sum-claims-requires c).Else-is_bad_plan }
+    let else_is_bad_plan = (goal.at.claim_sum-claims-requires c).Else-is_bad_plan in
+    let else_rows = (goal.at.claim_sum-claims-requires c).Else-rows in
+    record { counts_are = counts_are else_rows; plan_good = plan_good else_is_bad_plan }
 
 by-claims : (c : After-claim_sum-claims) → unsound c.args.seats.now ≡ ltb seat_count c.claim_sum-claims.result
 unfolding one_of
 by-claims c =
-    by_limits _ c.is_bad_plan.ensures c.if-is_bad_plan.false c.requires.census.bad_is c.if-rows.false ∙ simp (← c.some_over.ensures, c.if-some_over.false, ← c.claim_sum-claims.ensures)
+    by_limits _ c.is_bad_plan.ensures c.if-is_bad_plan.false c.requires.census.bad_is c.if-rows.false
+    ∙ simp (← c.some_over.ensures, c.if-some_over.false, ← c.claim_sum-claims.ensures)
 
 pub returns-then-claims-gt-SEATS : goal.returns-then-claims-gt-SEATS
 unfolding plan_refusal

@@ -32,8 +32,10 @@ shape_of-held-then-is_bad_row c =
 
 pub returns-then-is_bad_row : goal.returns-then-is_bad_row
 returns-then-is_bad_row c =
+    let after_at_owner = (goal.at.returns-then-is_bad_row c).After-at-owner in
+    let after_is_bad_row = (goal.at.returns-then-is_bad_row c).After-is_bad_row in
     let so_far = c.loop-i.invariant in
-    census_bad _ _ _ (some_passes _ _ _ so_far.0 c.loop-i-test.true (test_is (goal.at.returns-then-is_bad_row c).After-is_bad_row (row_is (goal.at.returns-then-is_bad_row c).After-at-owner) ∙ c.if-is_bad_row.true))
+    census_bad _ _ _ (some_passes _ _ _ so_far.0 c.loop-i-test.true (test_is after_is_bad_row (row_is after_at_owner) ∙ c.if-is_bad_row.true))
 
 pub count-requires : goal.count-requires
 count-requires c =

@@ -30,13 +30,15 @@ pub returns-then-head-eq-FREE : goal.returns-then-head-eq-FREE
 unfolding foreign one_of first_of admission
 returns-then-head-eq-FREE c =
     let q = head_is c.head_of-head.ensures in
-    simp (in_order c.args.row.now c.args.records c.args.owner c.args.last c.is_damaged.ensures c.if-is_damaged.false, ← q.phase_is, eq-eqb _ _ c.if-head-eq-FREE.true)
+    let left = in_order c.args.row.now c.args.records c.args.owner c.args.last c.is_damaged.ensures c.if-is_damaged.false in
+    simp (left, ← q.phase_is, eq-eqb _ _ c.if-head-eq-FREE.true)
 
 pub returns-then-head-owner : goal.returns-then-head-owner
 unfolding foreign one_of first_of admission
 returns-then-head-owner c =
     let q = head_is c.head_of-head.ensures in
-    simp (in_order c.args.row.now c.args.records c.args.owner c.args.last c.is_damaged.ensures c.if-is_damaged.false, ← q.phase_is, ← q.owner_is, ne_eqb _ _ c.if-head-eq-FREE.false, ne_eqb _ _ c.if-head-owner.true)
+    let left = in_order c.args.row.now c.args.records c.args.owner c.args.last c.is_damaged.ensures c.if-is_damaged.false in
+    simp (left, ← q.phase_is, ← q.owner_is, ne_eqb _ _ c.if-head-eq-FREE.false, ne_eqb _ _ c.if-head-owner.true)
 
 -- THE OWNER'S OWN ROW: 5 is left
 own : (c : Else-head-owner) → row_refusal c.args.row.now c.args.records c.args.owner c.args.last
@@ -44,7 +46,8 @@ own : (c : Else-head-owner) → row_refusal c.args.row.now c.args.records c.args
 unfolding foreign one_of first_of
 own c =
     let q = head_is c.head_of-head.ensures in
-    in_order c.args.row.now c.args.records c.args.owner c.args.last c.is_damaged.ensures c.if-is_damaged.false ∙ simp (← q.phase_is, ← q.owner_is, ne_eqb _ _ c.if-head-eq-FREE.false, eq-eqb _ _ c.if-head-owner.false)
+    in_order c.args.row.now c.args.records c.args.owner c.args.last c.is_damaged.ensures c.if-is_damaged.false
+    ∙ simp (← q.phase_is, ← q.owner_is, ne_eqb _ _ c.if-head-eq-FREE.false, eq-eqb _ _ c.if-head-owner.false)
 
 pub returns-then-last-head : goal.returns-then-last-head
 unfolding first_of admission

@@ -26,7 +26,9 @@ head-is-bad c =
     sym (c.is_bad_head.ensures ∙ bad_head_lem c.requires)
 
 pub returns-then-is_bad_head : goal.returns-then-is_bad_head
-returns-then-is_bad_head c = simp (in_use c.args.records c.requires c.if-head-eq-FREE.false, head-is-bad (goal.at.returns-then-is_bad_head c).After-is_bad_head, c.if-is_bad_head.true)
+returns-then-is_bad_head c =
+    let after_is_bad_head = (goal.at.returns-then-is_bad_head c).After-is_bad_head in
+    simp (in_use c.args.records c.requires c.if-head-eq-FREE.false, head-is-bad after_is_bad_head, c.if-is_bad_head.true)
 
 -- A HEAD IN ORDER: the entries decide, of which there are no more than a row can have
 head-fine : (c : Else-is_bad_head) → bad_head c.args.row.now ≡ false

@@ -17,11 +17,13 @@ short c = omega (arith, c.well_formed)
 
 pub returns-then-n-out : goal.returns-then-n-out
 returns-then-n-out c =
+    let after_lines_n = (goal.at.returns-then-n-out c).After-lines-n in
     let a = c.args in
-    run_fits a.tape.now a.out.now _ _ c.lines-n.ensures.end (omega arith) (short (goal.at.returns-then-n-out c).After-lines-n)
-    (rw (nothing_put (goal.at.returns-then-n-out c).After-lines-n) at c.lines.ensures.text)
+    run_fits a.tape.now a.out.now _ _ c.lines-n.ensures.end (omega arith) (short after_lines_n)
+    (rw (nothing_put after_lines_n) at c.lines.ensures.text)
 
 pub returns : goal.returns
 returns c =
+    let after_lines_n = (goal.at.returns c).After-lines-n in
     let a = c.args in
-    rw (nothing_put (goal.at.returns c).After-lines-n) (run-not a.tape.now a.out.now _ c.lines-n.ensures.end (omega arith) (short (goal.at.returns c).After-lines-n))
+    rw (nothing_put after_lines_n) (run-not a.tape.now a.out.now _ c.lines-n.ensures.end (omega arith) (short after_lines_n))

@@ -13,12 +13,14 @@ spelled c = spells_as c.args.a c.spell-spelled.ensures
 
 pub slice_bounds-letters-end : goal.slice_bounds-letters-end
 slice_bounds-letters-end c =
-    omega (arith, (spelled (goal.at.slice_bounds-letters-end c).After-spell-spelled).short, (spelled (goal.at.slice_bounds-letters-end c).After-spell-spelled).all)
+    let after_spell_spelled = (goal.at.slice_bounds-letters-end c).After-spell-spelled in
+    omega (arith, (spelled after_spell_spelled).short, (spelled after_spell_spelled).all)
 
 pub slice_bounds-numbered-end : goal.slice_bounds-numbered-end
 slice_bounds-numbered-end c =
+    let after_spell_spelled = (goal.at.slice_bounds-numbered-end c).After-spell-spelled in
     let s = c.spell-spelled.result in
-    sym (length-take-le s.len s.letters (omega (arith, (spelled (goal.at.slice_bounds-numbered-end c).After-spell-spelled).short, (spelled (goal.at.slice_bounds-numbered-end c).After-spell-spelled).all)))
+    sym (length-take-le s.len s.letters (omega (arith, (spelled after_spell_spelled).short, (spelled after_spell_spelled).all)))
 
 pub returns : goal.returns
 returns c =

@@ -19,4 +19,5 @@ write_in-requires c =
 pub returns-in-Ready : goal.returns-in-Ready
 unfolding write
 returns-in-Ready c =
-    c.write_in.ensures (tables c.args.values.now c.args.words.now c.args.seats.now) ∙ sym (ready_call _ _ _ _ _ _ (sym c.admit-admission.ensures ∙ c.in-Ready.is) _)
+    let found = tables c.args.values.now c.args.words.now c.args.seats.now in
+    c.write_in.ensures found ∙ sym (ready_call _ _ _ _ _ _ (sym c.admit-admission.ensures ∙ c.in-Ready.is) _)

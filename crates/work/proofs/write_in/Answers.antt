@@ -23,7 +23,8 @@ returns-then-w-head c = λ t.
 pub returns-then-head-ge-MOST_WRITES : goal.returns-then-head-ge-MOST_WRITES
 unfolding write_in
 returns-then-head-ge-MOST_WRITES c = λ t.
-    simp (write-is (goal.at.returns-then-head-ge-MOST_WRITES c).After-write_of-w, ← c.requires.count_is, le-ltb _ _ c.if-w-head.false, le-leb _ _ c.if-head-ge-MOST_WRITES.true)
+    let after_write_of_w = (goal.at.returns-then-head-ge-MOST_WRITES c).After-write_of-w in
+    simp (write-is after_write_of_w, ← c.requires.count_is, le-ltb _ _ c.if-w-head.false, le-leb _ _ c.if-head-ge-MOST_WRITES.true)
 
 pub place-requires : goal.place-requires
 place-requires c =
