@@ -23,7 +23,7 @@ digits_are (suc k) n = digits_join (digits_are k (n / 10)) (digit (omega arith) 
 read_join : (so : ℕ) (xs ys : List ℕ) → read_on so (xs ++ ys) ≡ read_on (read_on so xs) ys
 unfolding read_on
 read_join so [] ys = refl
-read_join so (x ∷ xs) ys = read_join (so * 10 + (x - 48)) xs ys
+read_join so (x ∷ xs) ys = read_join (read_on so (x ∷ [])) xs ys
 
 shows-one : (n : ℕ) → n < 10 → Shows 1 n
 unfolding digits read_on
