@@ -176,8 +176,14 @@ module _ (t : Tables) (z : Reached t) where
       by (leb owners o)
       (λ e. open_no_owner t k o (leb-true owners o e) ∙ rw e refl)
       (λ e. let low = leb-false owners o e in
-      rw (open_refusal_lem t k o low, e, held-seen t z o, claims_are, plan-stays t z (share_at o) (omega arith),
-        plan-stays t z (limit_at o) (omega arith)) refl)
+      rw (
+        open_refusal_lem t k o low,
+        e,
+        held-seen t z o,
+        claims_are,
+        plan-stays t z (share_at o) (omega arith),
+        plan-stays t z (limit_at o) (omega arith),
+      ) refl)
 
   -- SETUP, over tables whose lengths a Setup has accepted
   setup_is : (start : ℕ) (plan : List ℕ) → setup_refusal t start plan ≡ due (records z) (seen z) (Setup start plan)

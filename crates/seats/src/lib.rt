@@ -286,6 +286,7 @@ pub enum Admission {
 }
 
 // Refusals 3 to 5, from the row. `last` is the last phase that the call is for.
+#[tactic(auto, using(crate::proofs::Admitting::refused_late))]
 fn admit_to_row(row: &[u64], records: u64, owner: u64, last: u64) -> Admission
     ensures { result ≡ admission (row_refusal row.now records owner last) row.now }
 {

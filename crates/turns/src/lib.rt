@@ -95,6 +95,7 @@ fn first_of(n: u64, len: usize) -> usize
 }
 
 // Setup, as the tape allows it: once, and of at most 1024 records.
+#[tactic(auto, using(crate::specs::Laws::setup_again_lem))]
 fn set_up(
     count: u64,
     start: u64,

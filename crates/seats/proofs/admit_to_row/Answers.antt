@@ -2,6 +2,7 @@
 use Prim.Native.Nat.{ℕ}
 use mathlib.Core.Path.{◌≡◌, ◌∙◌, ap}
 use mathlib.Core.List.{List, [], ◌∷◌}
+use native.Mathlib.Omega.{arith}
 use borrow.Author.Tests.{eq-eqb, le-ltb, lt-ltb, ne_eqb}
 use lib.Dec.{ltb}
 use Rattle.rules.specs.Layout.{phase}
@@ -49,13 +50,8 @@ own c =
     in_order c.args.row.now c.args.records c.args.owner c.args.last c.is_damaged.ensures c.if-is_damaged.false
     ∙ simp (← q.phase_is, ← q.owner_is, ne_eqb _ _ c.if-head-eq-FREE.false, eq-eqb _ _ c.if-head-owner.false)
 
-pub returns-then-last-head : goal.returns-then-last-head
-unfolding first_of admission
-returns-then-last-head c =
-    simp (own (goal.at.returns-then-last-head c).Else-head-owner, ← (head_is c.head_of-head.ensures).phase_is, lt-ltb _ _ c.if-last-head.true)
-
 pub returns : goal.returns
 unfolding first_of admission
 returns c =
     let e = c.head_of-head.ensures in
-    simp (own (goal.at.returns c).Else-head-owner, ← (head_is e).phase_is, le-ltb _ _ c.if-last-head.false) (ap Ready e)
+    simp (own (goal.at.returns c).Else-head-owner, ← (head_is e).phase_is, le-ltb c.args.last c.head_of-head.result.phase (omega arith)) (ap Ready e)

@@ -13,7 +13,6 @@ use Rattle.tape.specs.Promises.{far_off, room_for, unfit}
 use Rattle.tape.specs.declared.Counts.{Counts}
 use Rattle.tape.proofs.is_unfit.Goals as goal
 
-
 -- the room, tested without a product
 room_test : (out to : ℕ) → last_room ≤ out → ltb ((out - last_room) / line_room) to ≡ ltb out (room_for to)
 room_test out to h = go (ltb ((out - last_room) / line_room) to) refl
@@ -83,8 +82,8 @@ unfolding one_of
 returns-then-values-ne-RECORDS c =
     let a = c.args in
     let left =
-        counts_fit a.buffer a.from a.to a.k a.values a.words a.out c.if-buffer-to.false c.if-to-from.false
-        c.if-k-gt-FAR_OFF.false c.if-k-gt-FAR_OFF-2.false c.if-k-gt-MOST_RECORDS.false in
+    counts_fit a.buffer a.from a.to a.k a.values a.words a.out c.if-buffer-to.false c.if-to-from.false
+    c.if-k-gt-FAR_OFF.false c.if-k-gt-FAR_OFF-2.false c.if-k-gt-MOST_RECORDS.false in
     simp (left, ne_eqb _ _ c.if-values-ne-RECORDS.true)
 
 pub returns-then-words-ne-RECORDS : goal.returns-then-words-ne-RECORDS
@@ -92,22 +91,22 @@ unfolding one_of
 returns-then-words-ne-RECORDS c =
     let a = c.args in
     let left =
-        counts_fit a.buffer a.from a.to a.k a.values a.words a.out c.if-buffer-to.false c.if-to-from.false
-        c.if-k-gt-FAR_OFF.false c.if-k-gt-FAR_OFF-2.false c.if-k-gt-MOST_RECORDS.false in
+    counts_fit a.buffer a.from a.to a.k a.values a.words a.out c.if-buffer-to.false c.if-to-from.false
+    c.if-k-gt-FAR_OFF.false c.if-k-gt-FAR_OFF-2.false c.if-k-gt-MOST_RECORDS.false in
     simp (left, eq-eqb _ _ c.if-values-ne-RECORDS.false, ne_eqb _ _ c.if-words-ne-RECORDS.true)
 
 pub returns-then-out-lt-LAST_ROOM : goal.returns-then-out-lt-LAST_ROOM
 returns-then-out-lt-LAST_ROOM c =
     let a = c.args in
     let left =
-        tables_fit a.buffer a.from a.to a.k a.values a.words a.out c.if-buffer-to.false c.if-to-from.false
-        c.if-k-gt-FAR_OFF.false c.if-k-gt-FAR_OFF-2.false c.if-k-gt-MOST_RECORDS.false c.if-values-ne-RECORDS.false c.if-words-ne-RECORDS.false in
+    tables_fit a.buffer a.from a.to a.k a.values a.words a.out c.if-buffer-to.false c.if-to-from.false
+    c.if-k-gt-FAR_OFF.false c.if-k-gt-FAR_OFF-2.false c.if-k-gt-MOST_RECORDS.false c.if-values-ne-RECORDS.false c.if-words-ne-RECORDS.false in
     simp (left, lt-ltb c.args.out (room_for c.args.to) (omega (arith, c.if-out-lt-LAST_ROOM.true)))
 
 pub returns : goal.returns
 returns c =
     let a = c.args in
     let left =
-        tables_fit a.buffer a.from a.to a.k a.values a.words a.out c.if-buffer-to.false c.if-to-from.false
-        c.if-k-gt-FAR_OFF.false c.if-k-gt-FAR_OFF-2.false c.if-k-gt-MOST_RECORDS.false c.if-values-ne-RECORDS.false c.if-words-ne-RECORDS.false in
+    tables_fit a.buffer a.from a.to a.k a.values a.words a.out c.if-buffer-to.false c.if-to-from.false
+    c.if-k-gt-FAR_OFF.false c.if-k-gt-FAR_OFF-2.false c.if-k-gt-MOST_RECORDS.false c.if-values-ne-RECORDS.false c.if-words-ne-RECORDS.false in
     room_test c.args.out c.args.to c.if-out-lt-LAST_ROOM.false ∙ sym (left)

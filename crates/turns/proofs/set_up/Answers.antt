@@ -1,21 +1,19 @@
 -- `turns::set_up` meets its contract. Assumes nothing.
 use mathlib.Core.Path.{refl, sym, ap, ◌∙◌}
 use mathlib.Core.List.{List}
+use native.Mathlib.Omega.{arith}
 use Prim.Native.Nat.{ℕ}
 use lib.Seq.{length-take-le}
 use Rattle.rules.specs.Tables.{Tables, tables}
 use Rattle.rules.specs.Plan.{setup}
 use Rattle.rules.specs.Calls.{Setup, step}
 use Rattle.turns.specs.Calls.{on_first}
-use Rattle.turns.specs.Laws.{setup_again_lem, setup_many, setup-lent}
+use Rattle.turns.specs.Laws.{setup_many, setup-lent}
 use Rattle.turns.proofs.Lending.{unchanged, given_back_lem}
 use Rattle.turns.proofs.set_up.Goals as goal
 
-pub returns-then-records-gt0 : goal.returns-then-records-gt0
-returns-then-records-gt0 c = sym (setup_again_lem _ _ _ _ _ c.if-records-gt0.true)
-
 pub returns-then-count-gt-MOST_RECORDS : goal.returns-then-count-gt-MOST_RECORDS
-returns-then-count-gt-MOST_RECORDS c = sym (setup_many _ _ _ _ _ c.if-records-gt0.false c.if-count-gt-MOST_RECORDS.true)
+returns-then-count-gt-MOST_RECORDS c = sym (setup_many _ _ _ _ _ (omega arith) c.if-count-gt-MOST_RECORDS.true)
 
 pub slice_bounds-setup-end : goal.slice_bounds-setup-end
 slice_bounds-setup-end c =
@@ -34,4 +32,4 @@ returns c =
     (λ (x : Tables). setup x a.start c.plan_of-plan.result) c.setup.ensures
     (unchanged c.first_of-n.result a.values.now) refl
     ∙ ap (λ (p : List ℕ). on_first t a.count (Setup a.start p)) c.plan_of-plan.ensures
-    ∙ sym (setup-lent a.records a.count a.start t a.b.now c.if-records-gt0.false c.if-count-gt-MOST_RECORDS.false)
+    ∙ sym (setup-lent a.records a.count a.start t a.b.now (omega arith) c.if-count-gt-MOST_RECORDS.false)

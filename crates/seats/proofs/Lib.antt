@@ -1,0 +1,2 @@
+-- Laws that several functions' proofs rest on.
+pub mod Admitting
