@@ -90,6 +90,7 @@ fn compared(folder: &Path) -> Result<(), String> {
     let calls = prototypes(&header);
     same("the harness's declarations", &calls, &DECLARED.iter().map(declared).collect())?;
     same("the engine's source", &calls, &exported(&text("crates/boundary/src/lib.rt")))?;
+    same("the archive's source", &calls, &exported(&text("crates/boundary_c/src/lib.rt")))?;
     same("the second program's numbers", &numbers(&header, folder)?, &known())
 }
 

@@ -110,7 +110,7 @@ fn bad_files(code: &str) -> Vec<String> {
 
 /// What a build makes is not in the repository.
 fn is_made(file: &str) -> bool {
-    file.split('/').any(|part| part == "target")
+    file.split('/').any(|part| ["target", "out"].contains(&part))
 }
 
 /// A pattern stands for many names: it has a mark for anything, or a part in capitals alone. But
