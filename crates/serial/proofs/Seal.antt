@@ -16,7 +16,7 @@ use Rattle.serial.proofs.Protocol.{val, VersionOk, CheckingOk, Inv}
 use Rattle.serial.proofs.Growth.{Grows, Stays, stays_other, step_inv, keep_holds}
 use Rattle.serial.proofs.Versions.{quiet}
 
--- what its reader was firstReadOf
+-- what its reader was told
 abbrev pub first_read_of : ReadEntry → FirstRead
 first_read_of e = e.told
 

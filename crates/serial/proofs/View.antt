@@ -24,7 +24,7 @@ entry_at g i =
 abbrev pub read_entries : List ℕ → List ReadEntry
 read_entries g = seg (entry_at g) 0 (reads g)
 
--- what their readers were firstReadOf is what the observer sees
+-- what their readers were told is what the observer sees
 pub first-reads_are : (g : List ℕ) → map first_read_of (read_entries g) ≡ first_reads g
 first-reads_are g = seg-map first_read_of (entry_at g) (reads g) 0
 

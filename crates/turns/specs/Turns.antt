@@ -20,7 +20,7 @@ use Rattle.turns.specs.Calls.{performed, records_after}
 abbrev pub line_of : ℕ → Answer → List ℕ
 line_of n a = line n (letters_of a) (number a)
 
--- a call of k bytes prints at most lineRoom * k bytes, and a last line lastRoom
+-- a call of k bytes prints at most line_room * k bytes, and a last line last_room
 abbrev pub line_room : ℕ
 line_room = 13
 

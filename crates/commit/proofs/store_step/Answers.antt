@@ -1,4 +1,4 @@
--- `commit::store_step_lem` meets its contract. Assumes nothing.
+-- `commit::store_step` meets its contract. Assumes nothing.
 use mathlib.Core.Path.{refl}
 use native.Mathlib.Omega.{arith}
 use Rattle.rules.specs.Advance.{effect, store_step}
