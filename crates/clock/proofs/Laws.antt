@@ -1,13 +1,11 @@
 -- What callers may rest on: the laws of the clock word. A caller unfolds no definition of `Word`.
 -- `Is w lock write read` (specs/Laws) is all that is to be known of a word; each way of making a word has its `Is`.
-use Prim.Native.Nat.{ℕ, ◌+◌, ◌-◌, ◌*◌, ◌/◌, ◌%◌, ◌^◌, ◌≤◌, ◌<◌}
-use native.Mathlib.Omega.{arith}
-use Rattle.std.proofs.Math.Decide.{dec_lt}
-use Rattle.std.specs.Prelude.{◌≡◌, refl, Bool, true, false}
-use Rattle.std.proofs.Common.{ap, ◌∙◌}
+use Rattle.std.specs.Prelude.{ℕ, ◌+◌, ◌-◌, ◌*◌, ◌/◌, ◌%◌, ◌^◌, ◌≤◌, ◌<◌, ◌≡◌, refl, Bool, true, false, Ok, Err}
+use Rattle.std.proofs.Common.{ap, ◌∙◌, arith, eq-eqb, ne_eqb, lt-ltb, le-ltb, le-leb}
+use Rattle.std.proofs.lemmas.Bool.{lt-leb}
 use Rattle.std.proofs.Math.Bool.{and-false}
-use borrow.Author.Tests.{eq-eqb, ne_eqb, lt-ltb, le-ltb, le-leb, lt-leb}
-use Rattle.clock.specs.declared.Packed.TheVariants.{Word, Refused}
+use Rattle.std.proofs.Math.Decide.{dec_lt}
+use Rattle.clock.specs.declared.Unfit.TheVariants.{OutOfRange}
 use Rattle.clock.specs.Word.{distance_span, time_span, top, lock_bit, is_locked, distance, write_time, read_time, bit, word_of, with_lock}
 use Rattle.clock.specs.Word.{fresh, extended, packed, fresh_at, extended_to}
 use Rattle.clock.specs.Laws.{Is}
@@ -129,38 +127,38 @@ module _ (w t : ℕ) (lo : write_time w ≤ t) (hi : t ≤ top) where
 
 -- the answers
 module _ (b : Bool) (d t : ℕ) where
-  pub packed_word : d < distance_span → t ≤ top → packed b d t ≡ Word (word_of b d t)
+  pub packed_word : d < distance_span → t ≤ top → packed b d t ≡ Ok (word_of b d t)
   unfolding packed
   packed_word hd ht = simp (lt-ltb d distance_span hd, le-leb t top ht)
 
-  pub packed_far : distance_span ≤ d → packed b d t ≡ Refused 2
+  pub packed_far : distance_span ≤ d → packed b d t ≡ Err OutOfRange
   unfolding packed
   packed_far hd = simp (le-ltb d distance_span hd)
 
-  pub packed-late : top < t → packed b d t ≡ Refused 2
+  pub packed-late : top < t → packed b d t ≡ Err OutOfRange
   unfolding packed
   packed-late ht = simp (lt-leb t top ht, and-false)
 
-pub packed_parts : (w : ℕ) → w < 2 ^ 64 → packed (is_locked w) (distance w) (write_time w) ≡ Word w
-packed_parts w h = packed_word _ _ _ (distance_small w) (write_time_small w) ∙ ap Word (word_parts w h)
+pub packed_parts : (w : ℕ) → w < 2 ^ 64 → packed (is_locked w) (distance w) (write_time w) ≡ Ok w
+packed_parts w h = packed_word _ _ _ (distance_small w) (write_time_small w) ∙ ap Ok (word_parts w h)
 
-pub fresh_at_word : (t : ℕ) → t ≤ top → fresh_at t ≡ Word (fresh t)
+pub fresh_at_word : (t : ℕ) → t ≤ top → fresh_at t ≡ Ok (fresh t)
 unfolding fresh_at
 fresh_at_word t h = simp (le-leb t top h)
 
-pub fresh_at-late : (t : ℕ) → top < t → fresh_at t ≡ Refused 2
+pub fresh_at-late : (t : ℕ) → top < t → fresh_at t ≡ Err OutOfRange
 unfolding fresh_at
 fresh_at-late t h = simp (lt-leb t top h)
 
 module _ (w t : ℕ) where
-  pub extended_to_word : write_time w ≤ t → t ≤ top → extended_to w t ≡ Word (extended w t)
+  pub extended_to_word : write_time w ≤ t → t ≤ top → extended_to w t ≡ Ok (extended w t)
   unfolding extended_to
   extended_to_word lo hi = simp (le-leb (write_time w) t lo, le-leb t top hi)
 
-  pub extended_to_early : t < write_time w → extended_to w t ≡ Refused 2
+  pub extended_to_early : t < write_time w → extended_to w t ≡ Err OutOfRange
   unfolding extended_to
   extended_to_early h = simp (lt-leb (write_time w) t h)
 
-  pub extended_to-late : top < t → extended_to w t ≡ Refused 2
+  pub extended_to-late : top < t → extended_to w t ≡ Err OutOfRange
   unfolding extended_to
   extended_to-late h = simp (lt-leb t top h, and-false)

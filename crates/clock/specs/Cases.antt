@@ -1,13 +1,12 @@
 -- P1 to P4 of document 01, and both sides of each limit of the word, computed from the definitions.
-use Rattle.std.specs.Prelude.{ℕ, ◌≡◌, refl, true, false, List, [], ◌∷◌}
-use Rattle.clock.specs.declared.Packed.{Packed}
-use Rattle.clock.specs.declared.Packed.TheVariants.{Word, Refused}
-use Rattle.clock.specs.Word.{distance_span, time_span, top, lock_bit, distance, write_time, is_locked, word_of, fresh, extended, packed, fresh_at, extended_to}
+use Rattle.std.specs.Prelude.{ℕ, ◌≡◌, refl, true, false, List, [], ◌∷◌, Result, Ok, Err}
+use Rattle.clock.specs.declared.Unfit.{Unfit}
+use Rattle.clock.specs.Word.{number, distance_span, time_span, top, lock_bit, distance, write_time, is_locked, word_of, fresh, extended, packed, fresh_at, extended_to}
 
 -- an answer in numbers: a word is itself, its write time and its distance; a refusal its number alone
-unfoldable pub shows : Packed → List ℕ
-shows (Refused n) = n ∷ []
-shows (Word w) = w ∷ write_time w ∷ distance w ∷ []
+unfoldable pub shows : Result ℕ Unfit → List ℕ
+shows (Err e) = number e ∷ []
+shows (Ok w) = w ∷ write_time w ∷ distance w ∷ []
 
 unfoldable pub word_cases : List (List ℕ)
 word_cases =

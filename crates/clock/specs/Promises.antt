@@ -1,7 +1,7 @@
 -- What each public function promises of its result `r`, one statement a function; `NAME-one` says that the statement leaves one result.
-use Rattle.std.specs.Prelude.{ℕ, ◌≡◌, Bool, true, false}
+use Rattle.std.specs.Prelude.{ℕ, ◌≡◌, Bool, true, false, Result}
 use Rattle.std.proofs.Common.{sym, ◌∙◌}
-use Rattle.clock.specs.declared.Packed.{Packed}
+use Rattle.clock.specs.declared.Unfit.{Unfit}
 use Rattle.clock.specs.declared.Parts.{Parts}
 use Rattle.clock.specs.Word.{top, is_locked, distance, write_time, read_time, parts_of, with_lock, packed, fresh_at, extended_to}
 
@@ -48,10 +48,10 @@ pub PartsAre-one : (w : ℕ) (r q : Parts) → PartsAre w r → PartsAre w q →
 PartsAre-one w r q = one_result
 
 -- a word packed, or refusal 2
-abbrev pub PackedIs : Bool → ℕ → ℕ → Packed → Type 0
+abbrev pub PackedIs : Bool → ℕ → ℕ → Result ℕ Unfit → Type 0
 PackedIs locked d t r = r ≡ packed locked d t
 
-pub PackedIs-one : (locked : Bool) (d t : ℕ) (r q : Packed) → PackedIs locked d t r → PackedIs locked d t q → r ≡ q
+pub PackedIs-one : (locked : Bool) (d t : ℕ) (r q : Result ℕ Unfit) → PackedIs locked d t r → PackedIs locked d t q → r ≡ q
 PackedIs-one locked d t r q = one_result
 
 -- the same word, locked or not
@@ -68,15 +68,15 @@ pub UnlockedIs-one : (w r q : ℕ) → UnlockedIs w r → UnlockedIs w q → r �
 UnlockedIs-one w r q = one_result
 
 -- the unlocked word with both times t, or refusal 2
-abbrev pub FreshIs : ℕ → Packed → Type 0
+abbrev pub FreshIs : ℕ → Result ℕ Unfit → Type 0
 FreshIs t r = r ≡ fresh_at t
 
-pub FreshIs-one : (t : ℕ) (r q : Packed) → FreshIs t r → FreshIs t q → r ≡ q
+pub FreshIs-one : (t : ℕ) (r q : Result ℕ Unfit) → FreshIs t r → FreshIs t q → r ≡ q
 FreshIs-one t r q = one_result
 
 -- a word extended to a time, or refusal 2
-abbrev pub ExtendedIs : ℕ → ℕ → Packed → Type 0
+abbrev pub ExtendedIs : ℕ → ℕ → Result ℕ Unfit → Type 0
 ExtendedIs w t r = r ≡ extended_to w t
 
-pub ExtendedIs-one : (w t : ℕ) (r q : Packed) → ExtendedIs w t r → ExtendedIs w t q → r ≡ q
+pub ExtendedIs-one : (w t : ℕ) (r q : Result ℕ Unfit) → ExtendedIs w t r → ExtendedIs w t q → r ≡ q
 ExtendedIs-one w t r q = one_result

@@ -1,8 +1,8 @@
 -- The clock word, as document 01 has it: bit 63 is the lock, bits 48 to 62 the distance from write time to read time, bits 0 to 47 the write time.
 -- The widths stand here alone, in `distance_bits` and `time_bits`. Crates above use the laws of proofs/Laws and unfold nothing.
-use Rattle.std.specs.Prelude.{ℕ, ◌+◌, ◌-◌, ◌*◌, ◌/◌, ◌%◌, ◌^◌, Bool, true, false, ◌&&◌, ltb, leb, eqb}
-use Rattle.clock.specs.declared.Packed.{Packed}
-use Rattle.clock.specs.declared.Packed.TheVariants.{Word, Refused}
+use Rattle.std.specs.Prelude.{ℕ, ◌+◌, ◌-◌, ◌*◌, ◌/◌, ◌%◌, ◌^◌, Bool, true, false, ◌&&◌, ltb, leb, eqb, Result, Ok, Err}
+use Rattle.clock.specs.declared.Unfit.{Unfit}
+use Rattle.clock.specs.declared.Unfit.TheVariants.{OutOfRange}
 use Rattle.clock.specs.declared.Parts.{Parts}
 
 -- the widths of the two fields; the lock stands above them
@@ -69,15 +69,18 @@ extended w t =
     word_of (is_locked w) (d % distance_span) (write_time w + d / distance_span * distance_span)
 
 -- the answers: a word, or refusal 2
-abbrev pub word_if : Bool → ℕ → Packed
-word_if true w = Word w
-word_if false w = Refused 2
+abbrev pub number : Unfit → ℕ
+number OutOfRange = 2
 
-unfoldable pub packed : Bool → ℕ → ℕ → Packed
+abbrev pub word_if : Bool → ℕ → Result ℕ Unfit
+word_if true w = Ok w
+word_if false w = Err OutOfRange
+
+unfoldable pub packed : Bool → ℕ → ℕ → Result ℕ Unfit
 packed locked d t = word_if (ltb d distance_span && leb t top) (word_of locked d t)
 
-unfoldable pub fresh_at : ℕ → Packed
+unfoldable pub fresh_at : ℕ → Result ℕ Unfit
 fresh_at t = word_if (leb t top) (fresh t)
 
-unfoldable pub extended_to : ℕ → ℕ → Packed
+unfoldable pub extended_to : ℕ → ℕ → Result ℕ Unfit
 extended_to w t = word_if (leb (write_time w) t && leb t top) (extended w t)

@@ -2,18 +2,18 @@
 #![tactic(auto)]
 
 ghost use Rattle.std.specs.Prelude.{◌≡◌, ◌<◌, ◌≤◌};
-ghost use Rattle.clock.specs.Word.{distance_span, top, word_of};
+ghost use Rattle.clock.specs.Word.{distance_span, top, word_of, with_lock};
 ghost use Rattle.clock.specs.Promises.{TopIs, LockIs, DistanceIs, WriteTimeIs, ReadTimeIs, PartsAre, PackedIs, LockedIs, UnlockedIs, FreshIs, ExtendedIs};
 
-// A word, or refusal 2 where the parts or the time are not to be had in one.
-#[derive(Clone, Copy)]
-pub enum Packed {
-    Word(u64),
-    Refused(u64),
+// Why there is no such word, with document 01's number.
+#[derive(Clone, Copy, Debug, PartialEq, Eq)]
+pub enum Unfit {
+    // The parts or the time are not to be had in a word.
+    OutOfRange = 2,
 }
 
 // A word read apart.
-#[derive(Clone, Copy)]
+#[derive(Clone, Copy, Debug, PartialEq, Eq)]
 pub struct Parts {
     pub locked: bool,
     pub distance: u64,
@@ -34,7 +34,7 @@ fn join(locked: bool, distance: u64, written: u64) -> u64
     requires { (distance < distance_span) × (written ≤ top) }
     ensures { result ≡ word_of locked distance written }
 {
-    (locked as u64) * LOCK + distance * TIME_SPAN + written
+    u64::from(locked) * LOCK + distance * TIME_SPAN + written
 }
 
 // The greatest time, T.
@@ -79,53 +79,60 @@ pub fn read_apart(w: u64) -> Parts
     }
 }
 
-pub fn pack(locked: bool, distance: u64, written: u64) -> Packed
+pub fn pack(locked: bool, distance: u64, written: u64) -> Result<u64, Unfit>
     ensures { PackedIs locked distance written result }
 {
     if distance >= DISTANCE_SPAN {
-        return Packed::Refused(2);
+        return Err(Unfit::OutOfRange);
     }
     if written >= TIME_SPAN {
-        return Packed::Refused(2);
+        return Err(Unfit::OutOfRange);
     }
-    Packed::Word(join(locked, distance, written))
+    Ok(join(locked, distance, written))
+}
+
+// The same word, locked or not.
+fn with_lock(locked: bool, w: u64) -> u64
+    ensures { result ≡ with_lock locked w }
+{
+    join(locked, distance(w), write_time(w))
 }
 
 pub fn lock(w: u64) -> u64
     ensures { LockedIs w result }
 {
-    join(true, distance(w), write_time(w))
+    with_lock(true, w)
 }
 
 pub fn unlock(w: u64) -> u64
     ensures { UnlockedIs w result }
 {
-    join(false, distance(w), write_time(w))
+    with_lock(false, w)
 }
 
 // The unlocked word with both times t.
-pub fn fresh(t: u64) -> Packed
+pub fn fresh(t: u64) -> Result<u64, Unfit>
     ensures { FreshIs t result }
 {
     if t >= TIME_SPAN {
-        return Packed::Refused(2);
+        return Err(Unfit::OutOfRange);
     }
-    Packed::Word(join(false, 0, t))
+    Ok(join(false, 0, t))
 }
 
 // T has a test of its own: with write time T and t = T + 1 the parts would still fit.
-pub fn extend(w: u64, t: u64) -> Packed
+pub fn extend(w: u64, t: u64) -> Result<u64, Unfit>
     ensures { ExtendedIs w t result }
 {
     let written = write_time(w);
     if t < written {
-        return Packed::Refused(2);
+        return Err(Unfit::OutOfRange);
     }
     if TIME_SPAN <= t {
-        return Packed::Refused(2);
+        return Err(Unfit::OutOfRange);
     }
     let d = t - written;
-    Packed::Word(join(
+    Ok(join(
         is_locked(w),
         d % DISTANCE_SPAN,
         written + d / DISTANCE_SPAN * DISTANCE_SPAN,

@@ -1,8 +1,7 @@
 -- The rows that the rules' changes make, as lists, and what each holds, number by number.
-use Prim.Native.Nat.{ℕ, zero, suc, ◌+◌, ◌-◌, ◌≤◌, ◌<◌}
-use Rattle.std.specs.Prelude.{◌≡◌, ◌≢◌, List, length, get_or, set, replicate}
-use Rattle.std.proofs.Math.Path.{refl}
+use Rattle.std.specs.Prelude.{ℕ, zero, suc, ◌+◌, ◌-◌, ◌≤◌, ◌<◌, ◌≡◌, ◌≢◌, List, length, get_or, set, replicate}
 use Rattle.std.proofs.Common.{sym, ◌∙◌, arith, eq-or-lt_of_le, le_of_suc-le-suc, get_or-set_same, ext_get_or}
+use Rattle.std.proofs.Math.Path.{refl}
 use Rattle.std.proofs.Math.Logic.{⊎_elim}
 use Rattle.std.proofs.Math.ListN.{length-set}
 use Rattle.std.proofs.lemmas.List.{length-replicate}

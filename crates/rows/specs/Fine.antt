@@ -1,7 +1,7 @@
 -- What is known of a row that is not damaged, and of a call that names a seat and is not refused.
 use Rattle.std.specs.Prelude.{ℕ, zero, suc, ◌≤◌, ◌<◌, ◌≡◌, refl, ◌≢◌, Bool, true, false, cond, ◌&&◌, ◌||◌, List, [], ◌∷◌, eqb, ltb, length}
-use Rattle.std.proofs.Common.{sym, true≢false, arith}
-use borrow.Author.Tests.{ltb-false, eqb-true, not-false, le-leb, leb-false, eqb-false, ne_eqb}
+use Rattle.std.proofs.Common.{sym, true≢false, arith, ltb-false, eqb-true, le-leb, leb-false, ne_eqb}
+use Rattle.std.proofs.lemmas.Bool.{not-false, eqb-false}
 use Rattle.clock.specs.Word.{top}
 use Rattle.rules.specs.Tests.{any, one_of, first_of}
 use Rattle.rules.specs.Layout.{owners, seat_count, most_records, most_reads, most_writes, row_width, seats_length, row, phase, owner, position}

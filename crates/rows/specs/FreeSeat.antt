@@ -1,11 +1,10 @@
 -- Open finds a free seat wherever it is not refused. If none were free, the owners would hold 64 seats between them, so U would be at least 64;
 -- it is not above 64, and the owner's own share is either used up, which is refusal 7, or makes U greater still.
-use Prim.Native.Nat.{ℕ, zero, suc, ◌≤◌, ◌<◌}
-use Rattle.std.specs.Prelude.{◌≡◌, ◌≢◌, Bool, List, length}
+use Rattle.std.specs.Prelude.{ℕ, zero, suc, ◌≤◌, ◌<◌, ◌≡◌, ◌≢◌, Bool, List, length}
+use Rattle.std.proofs.Common.{arith, ltb-false, ltb-true, leb-false, eq-eqb, ne_eqb}
+use Rattle.std.proofs.lemmas.Bool.{eqb-false}
 use Rattle.std.proofs.Math.Path.{refl}
 use Rattle.std.proofs.Math.Bool.{true, false, cond}
-use native.Mathlib.Omega.{arith}
-use borrow.Author.Tests.{ltb-false, ltb-true, leb-false, eqb-false, eq-eqb, ne_eqb}
 use Rattle.std.proofs.Math.Dec.{leb}
 use Rattle.rules.specs.Tests.{sum_to, count, any, first}
 use Rattle.rules.specs.Layout.{owners, seat_count, row, phase, owner, share, limit}

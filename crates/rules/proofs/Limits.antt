@@ -1,8 +1,8 @@
 -- What the definitions come to at their limits: which refusal is given first, what a check does not look at, what U counts, and what a freed row holds.
 use Rattle.std.specs.Prelude.{ℕ, zero, suc, ◌≤◌, ◌<◌, ◌≡◌, refl, Bool, true, false, cond, ◌||◌, List, leb, length, get_or}
 use Rattle.std.proofs.Common.{sym, ap, ◌∙◌, true≢false, arith, le-leb, lt-ltb, ltb-false, eq-eqb}
-use Rattle.std.proofs.Math.Decide.{ℕ_discrete}
 use Rattle.std.proofs.lemmas.Bool.{lt-leb}
+use Rattle.std.proofs.Math.Decide.{ℕ_discrete}
 use Rattle.clock.specs.Word.{is_locked, write_time}
 use Rattle.rules.specs.Layout.{owners, seat_count, most_reads, row_width, seats_length, row, cell, put, position, reads, writes, kept_write, share, limit}
 use Rattle.rules.specs.Places.{length-put, cell-put, cell-put_field}

@@ -7,6 +7,8 @@ use Rattle.rules.specs.Tables.{Tables, Outcome, with_values, with_words, with_se
 use Rattle.rules.specs.Refusals.{seat_refusal}
 use Rattle.rules.specs.Plan.{freed}
 use Rattle.rules.specs.Work.{write_of}
+use Rattle.rules.specs.Numbers.{abort_number}
+use Rattle.rules.specs.declared.Abort.TheVariants.{WordLocked, VersionGone, WordBlocked, TimeRunOut}
 use Rattle.rules.specs.declared.Answer.{Answer}
 use Rattle.rules.specs.declared.Answer.TheVariants.{Locked, Timed, Checked, Sealed, Stored, Done, Dropped, Refused, Aborted}
 use Rattle.rules.specs.declared.Verdict.{Verdict}
@@ -14,16 +16,16 @@ use Rattle.rules.specs.declared.Verdict.TheVariants.{Passes, Extends, Fails}
 
 -- the numbers of an abort
 abbrev pub word_locked : ℕ
-word_locked = 21
+word_locked = abort_number WordLocked
 
 abbrev pub version_gone : ℕ
-version_gone = 22
+version_gone = abort_number VersionGone
 
 abbrev pub word_blocked : ℕ
-word_blocked = 23
+word_blocked = abort_number WordBlocked
 
 abbrev pub time_run_out : ℕ
-time_run_out = 24
+time_run_out = abort_number TimeRunOut
 
 -- how many of its write entries a row in phases 1 to 3 holds the locks of: the first `position`, in phase 3 all
 unfoldable pub held_locks : List ℕ → ℕ
@@ -83,9 +85,9 @@ is_blocked word time = is_locked word && leb (read_time word) time
 -- by the word, where the kept read time is below the time
 unfoldable pub by_word : ℕ → ℕ → ℕ → Bool → Verdict
 by_word kept_write time word own =
-    cond (not (eqb (write_time word) kept_write)) (Fails version_gone)
+    cond (not (eqb (write_time word) kept_write)) (Fails VersionGone)
     (cond own Passes
-    (cond (is_blocked word time) (Fails word_blocked)
+    (cond (is_blocked word time) (Fails WordBlocked)
     (cond (ltb (read_time word) time) Extends Passes)))
 
 unfoldable pub verdict : ℕ → ℕ → ℕ → ℕ → Bool → Verdict
@@ -120,7 +122,7 @@ passed t s words =
 unfoldable pub ruled : Tables → ℕ → Verdict → Outcome
 ruled t s Passes = passed t s t.words
 ruled t s Extends = passed t s (stretched t.words (row t.seats s))
-ruled t s (Fails why) = let_go t s (Aborted why)
+ruled t s (Fails why) = let_go t s (Aborted (abort_number why))
 
 unfoldable pub check_step : Tables → ℕ → Outcome
 check_step t s = ruled t s (judged t s)

@@ -2,6 +2,7 @@
 -- in proofs/, what the definitions come to at their limits (Limits), and where the commit time lies (CommitTime).
 pub mod Tests
 pub mod Layout
+pub mod Numbers
 pub mod Answers
 pub mod Tables
 pub mod Lent

@@ -1,9 +1,7 @@
 -- Outcomes and runs of stores, part by part; and what the code reads from a seat's part of the table is what the rules read from its row.
-use Prim.Native.Nat.{ℕ, ◌≤◌, min}
-use Rattle.std.specs.Prelude.{◌≡◌, List, get_or}
-use Rattle.std.proofs.Common.{sym, ◌∙◌}
+use Rattle.std.specs.Prelude.{ℕ, ◌≤◌, min, ◌≡◌, List, get_or}
+use Rattle.std.proofs.Common.{sym, ◌∙◌, arith}
 use Rattle.std.proofs.Math.Path.{ap}
-use native.Mathlib.Omega.{arith}
 use Rattle.rules.specs.Tests.{first}
 use Rattle.rules.specs.Layout.{most_reads, most_writes, put, reads, writes}
 use Rattle.rules.specs.Tables.{tables, answered}

@@ -13,9 +13,10 @@ ghost use Rattle.seats.specs.Promises.{UnsizedIs, Admitted};
 pub mod layout;
 
 use layout::*;
+use rules::Refusal;
 
 // The first six numbers of a row.
-#[derive(Clone, Copy)]
+#[derive(Clone, Copy, Debug, PartialEq, Eq)]
 pub struct Head {
     pub phase: u64,
     pub owner: u64,
@@ -29,41 +30,16 @@ pub struct Head {
 pub fn at(list: &[u64], i: u64) -> u64
     ensures { PlaceIs list.now i result }
 {
-    let k = i as usize;
-    if k < list.len() { list[k] } else { 0 }
+    list.get(i as usize).copied().unwrap_or(0)
 }
 
 // A store at a place of a table; past its end there is none.
 pub fn store(list: &mut [u64], i: u64, v: u64)
     ensures { StoredAt list.old i v list.new }
 {
-    let k = i as usize;
-    if k < list.len() {
-        list[k] = v;
+    if let Some(place) = list.get_mut(i as usize) {
+        *place = v;
     }
-}
-
-// One number throughout a table.
-pub fn fill(list: &mut [u64], v: u64)
-    ensures { Filled list.old v list.new }
-{
-    let mut i = 0;
-    while i < list.len() {
-        list[i] = v;
-        i += 1;
-    }
-}
-
-pub fn greater(a: u64, b: u64) -> u64
-    ensures { GreaterIs a b result }
-{
-    if a < b { b } else { a }
-}
-
-fn lesser(a: u64, b: u64) -> u64
-    ensures { result ≡ min a b }
-{
-    if a < b { a } else { b }
 }
 
 // A SEAT'S ROW
@@ -86,21 +62,8 @@ pub fn row_of(seats: &[u64], seat: u64) -> &[u64]
 {
     let n = seats.len() as u64;
     let from = row_from(n, seat);
-    let to = lesser(from + ROW_WIDTH, n);
+    let to = n.min(from + ROW_WIDTH);
     &seats[from as usize..to as usize]
-}
-
-fn head_of(row: &[u64]) -> Head
-    ensures { result ≡ head_of row.now }
-{
-    Head {
-        phase: at(row, PHASE),
-        owner: at(row, OWNER),
-        position: at(row, POSITION),
-        reads: at(row, READS),
-        writes: at(row, WRITES),
-        time: at(row, TIME),
-    }
 }
 
 // A store at a place of a seat's row.
@@ -120,145 +83,111 @@ pub fn free_row(seats: &mut [u64], seat: u64)
 {
     let n = seats.len() as u64;
     let from = row_from(n, seat);
-    let to = lesser(from + ROW_WIDTH, n);
-    fill(&mut seats[from as usize..to as usize], 0);
+    let to = n.min(from + ROW_WIDTH);
+    seats[from as usize..to as usize].fill(0);
 }
 
-// The first of a row's n entries that names the record; n where none does.
+// The first of a row's n entries that names the record.
 // `first` is where the record's number stands in the first entry, `width` how far on in the next.
-fn find(row: &[u64], first: u64, width: u64, n: u64, item: u64) -> u64
+fn find(row: &[u64], first: u64, width: u64, n: u64, item: u64) -> Option<u64>
     requires { first + width * n ≤ row_width }
-    ensures { result ≡ first_of (λ i. eqb (get_or row.now (first + width * i) 0) item) n }
+    ensures { result ≡ found (λ i. eqb (get_or row.now (first + width * i) 0) item) n }
 {
-    let mut i = 0;
-    while i < n {
-        if at(row, first + width * i) == item {
-            return i;
-        }
-        i += 1;
-    }
-    n
+    (0..n).find(|&i| at(row, first + width * i) == item)
 }
 
-// The first of a row's n read entries, of which there are no more than 16, that names the record; their number where none does.
-pub fn read_of(row: &[u64], n: u64, item: u64) -> u64
+// The first of a row's n read entries, of which there are no more than 16, that names the record.
+pub fn read_of(row: &[u64], n: u64, item: u64) -> Option<u64>
     ensures { ReadEntryIs row.now n item result }
 {
-    find(row, READ_ITEM, READ_WIDTH, lesser(n, MOST_READS), item)
+    find(row, READ_ITEM, READ_WIDTH, n.min(MOST_READS), item)
 }
 
-// The first of a row's n write entries, of which there are no more than 8, that names the record; their number where none does.
-pub fn write_of(row: &[u64], n: u64, item: u64) -> u64
+// The first of a row's n write entries, of which there are no more than 8, that names the record.
+pub fn write_of(row: &[u64], n: u64, item: u64) -> Option<u64>
     ensures { WriteEntryIs row.now n item result }
 {
-    find(row, WRITE_ITEM, WRITE_WIDTH, lesser(n, MOST_WRITES), item)
+    find(row, WRITE_ITEM, WRITE_WIDTH, n.min(MOST_WRITES), item)
 }
 
 // REFUSAL 1: the tables' lengths.
 pub fn is_unsized(values: u64, words: u64, seats: u64) -> bool
     ensures { UnsizedIs values words seats result }
 {
-    if values != words {
-        return true;
-    }
-    if words == 0 {
-        return true;
-    }
-    if MOST_RECORDS < words {
-        return true;
-    }
-    seats != SEATS_LENGTH
+    values != words || words == 0 || MOST_RECORDS < words || seats != SEATS_LENGTH
 }
 
 // REFUSAL 2: an owner, a seat or a record out of range.
 fn is_misnamed(owner: u64, seat: u64, unknown: bool) -> bool
     ensures { result ≡ misnamed owner seat unknown }
 {
-    if OWNERS <= owner {
-        return true;
-    }
-    if SEATS <= seat {
-        return true;
-    }
-    unknown
+    OWNERS <= owner || SEATS <= seat || unknown
 }
 
 // REFUSAL 3: a damaged row.
-fn is_misplaced(phase: u64, position: u64, reads: u64, writes: u64) -> bool
-    ensures { result ≡ misplaced phase position reads writes }
-{
-    match phase {
-        WORKING => position != 0,
-        LOCKING => position == 0 || writes < position,
-        CHECKING => reads < position,
-        _ => writes < position,
+impl Head {
+    fn of(row: &[u64]) -> Head
+        ensures { result ≡ head_of row.now }
+    {
+        Head {
+            phase: at(row, PHASE),
+            owner: at(row, OWNER),
+            position: at(row, POSITION),
+            reads: at(row, READS),
+            writes: at(row, WRITES),
+            time: at(row, TIME),
+        }
     }
-}
 
-fn is_late(phase: u64, time: u64) -> bool
-    ensures { result ≡ late phase time }
-{
-    CHECKING <= phase && clock::top() < time
-}
+    fn is_misplaced(self) -> bool
+        ensures { result ≡ misplaced self.phase self.position self.reads self.writes }
+    {
+        match self.phase {
+            WORKING => self.position != 0,
+            LOCKING => self.position == 0 || self.writes < self.position,
+            CHECKING => self.reads < self.position,
+            _ => self.writes < self.position,
+        }
+    }
 
-fn is_bad_head(head: Head) -> bool
-    ensures { result ≡ bad_head (head_row head) }
-{
-    if STORING < head.phase {
-        return true;
+    fn is_late(self) -> bool
+        ensures { result ≡ late self.phase self.time }
+    {
+        CHECKING <= self.phase && clock::top() < self.time
     }
-    if OWNERS <= head.owner {
-        return true;
-    }
-    if MOST_READS < head.reads {
-        return true;
-    }
-    if MOST_WRITES < head.writes {
-        return true;
-    }
-    if is_misplaced(head.phase, head.position, head.reads, head.writes) {
-        return true;
-    }
-    is_late(head.phase, head.time)
-}
 
-fn is_bad_read(item: u64, kept_write: u64, records: u64, phase: u64, time: u64) -> bool
-    ensures { (g : List ℕ) (i : ℕ) → ReadOf g i item kept_write phase time → result ≡ bad_read g records i }
-{
-    if records <= item {
-        return true;
+    fn is_bad(self) -> bool
+        ensures { result ≡ bad_head (head_row self) }
+    {
+        STORING < self.phase
+            || OWNERS <= self.owner
+            || MOST_READS < self.reads
+            || MOST_WRITES < self.writes
+            || self.is_misplaced()
+            || self.is_late()
     }
-    CHECKING <= phase && time < kept_write
+
+    fn is_bad_read(self, row: &[u64], i: u64, records: u64) -> bool
+        requires { HeadOf row.now self × (i < most_reads) }
+        ensures { result ≡ bad_read row.now records i }
+    {
+        records <= at(row, READ_ITEM + READ_WIDTH * i)
+            || CHECKING <= self.phase && self.time < at(row, KEPT_WRITE + READ_WIDTH * i)
+    }
 }
 
 fn some_bad_read(row: &[u64], head: Head, records: u64) -> bool
     requires { HeadOf row.now head × (head.reads ≤ most_reads) }
     ensures { result ≡ any (bad_read row.now records) head.reads }
 {
-    let mut i = 0;
-    while i < head.reads {
-        let item = at(row, READ_ITEM + READ_WIDTH * i);
-        let kept_write = at(row, KEPT_WRITE + READ_WIDTH * i);
-        if is_bad_read(item, kept_write, records, head.phase, head.time) {
-            return true;
-        }
-        i += 1;
-    }
-    false
+    (0..head.reads).any(|i| head.is_bad_read(row, i, records))
 }
 
 fn some_bad_write(row: &[u64], writes: u64, records: u64) -> bool
     requires { writes ≤ most_writes }
     ensures { result ≡ any (bad_write row.now records) writes }
 {
-    let mut i = 0;
-    while i < writes {
-        if records <= at(row, WRITE_ITEM + WRITE_WIDTH * i) {
-            return true;
-        }
-        i += 1;
-    }
-    false
+    (0..writes).any(|i| records <= at(row, WRITE_ITEM + WRITE_WIDTH * i))
 }
 
 fn is_damaged(row: &[u64], head: Head, records: u64) -> bool
@@ -268,45 +197,29 @@ fn is_damaged(row: &[u64], head: Head, records: u64) -> bool
     if head.phase == FREE {
         return false;
     }
-    if is_bad_head(head) {
-        return true;
-    }
-    if some_bad_read(row, head, records) {
-        return true;
-    }
-    some_bad_write(row, head.writes, records)
+    head.is_bad() || some_bad_read(row, head, records) || some_bad_write(row, head.writes, records)
 }
 
-// ADMITTING A CALL that names a seat
-// Whether it is refused, or may begin, with the head of its row.
-#[derive(Clone, Copy)]
-pub enum Admission {
-    Refused(u64),
-    Ready(Head),
-}
-
+// ADMITTING A CALL that names a seat: the head of its row, or the refusal
 // Refusals 3 to 5, from the row. `last` is the last phase that the call is for.
 #[tactic(auto, using(crate::proofs::Admitting::refused_late))]
-fn admit_to_row(row: &[u64], records: u64, owner: u64, last: u64) -> Admission
-    ensures { result ≡ admission (row_refusal row.now records owner last) row.now }
+fn admit_to_row(row: &[u64], records: u64, owner: u64, last: u64) -> Result<Head, Refusal>
+    ensures { numbered result ≡ admission (row_refusal row.now records owner last) row.now }
 {
-    let head = head_of(row);
+    let head = Head::of(row);
     if is_damaged(row, head, records) {
-        return Admission::Refused(3);
+        return Err(Refusal::Damaged);
     }
-    if head.phase == FREE {
-        return Admission::Refused(4);
-    }
-    if head.owner != owner {
-        return Admission::Refused(4);
+    if head.phase == FREE || head.owner != owner {
+        return Err(Refusal::NotHeld);
     }
     if last < head.phase {
-        return Admission::Refused(5);
+        return Err(Refusal::TooLate);
     }
-    Admission::Ready(head)
+    Ok(head)
 }
 
-// Refused for the lowest number that is due. `unknown`: the call names a record, and there is no such record.
+// The head of its row; refused for the lowest number that is due. `unknown`: the call names a record, and there is no such record.
 pub fn admit(
     values: &[u64],
     words: &[u64],
@@ -315,15 +228,15 @@ pub fn admit(
     seat: u64,
     unknown: bool,
     last: u64,
-) -> Admission
+) -> Result<Head, Refusal>
     ensures { Admitted (lent values.now words.now seats.now) owner seat unknown last result }
 {
     let records = words.len() as u64;
     if is_unsized(values.len() as u64, records, seats.len() as u64) {
-        return Admission::Refused(1);
+        return Err(Refusal::WrongSizes);
     }
     if is_misnamed(owner, seat, unknown) {
-        return Admission::Refused(2);
+        return Err(Refusal::OutOfRange);
     }
     admit_to_row(row_of(seats, seat), records, owner, last)
 }

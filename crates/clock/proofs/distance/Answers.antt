@@ -1,5 +1,5 @@
 -- `clock::distance` meets its contract. Assumes nothing.
-use mathlib.Core.Path.{refl}
+use Rattle.std.specs.Prelude.{refl}
 use Rattle.clock.specs.Word.{distance, distance_span, time_span}
 use Rattle.clock.proofs.distance.Goals as goal
 

@@ -1,8 +1,7 @@
 -- `clock::extend` meets its contract. Assumes nothing.
-use mathlib.Core.Path.{sym}
+use Rattle.std.proofs.Common.{sym, arith}
 use Rattle.clock.proofs.Laws.{extended_to_word, extended_to_early, extended_to-late}
 use Rattle.clock.specs.Word.{distance_span, time_span, top, extended}
-use native.Mathlib.Omega.{arith}
 use Rattle.clock.proofs.extend.Goals as goal
 
 pub returns-then-t-written : goal.returns-then-t-written

@@ -1,9 +1,8 @@
 -- `clock::fresh` meets its contract. Assumes nothing.
-use Rattle.clock.specs.declared.Packed.TheVariants.{Word}
-use mathlib.Core.Path.{ap, sym, ◌∙◌}
+use Rattle.std.specs.Prelude.{Ok}
+use Rattle.std.proofs.Common.{ap, sym, ◌∙◌, arith}
 use Rattle.clock.proofs.Laws.{fresh_at_word, fresh_at-late}
 use Rattle.clock.specs.Word.{distance_span, time_span, top, fresh}
-use native.Mathlib.Omega.{arith}
 use Rattle.clock.proofs.fresh.Goals as goal
 
 pub returns-then-t-ge-TIME_SPAN : goal.returns-then-t-ge-TIME_SPAN
@@ -16,4 +15,4 @@ join-requires c = omega arith
 
 pub returns : goal.returns
 unfolding fresh top time_span
-returns c = ap Word c.join.ensures ∙ sym (fresh_at_word _ (omega arith))
+returns c = ap Ok c.join.ensures ∙ sym (fresh_at_word _ (omega arith))

@@ -1,11 +1,8 @@
 -- `clock::join` meets its contract: the sum of the parts fits. Assumes nothing.
-use native.Mathlib.Omega.{arith}
+use Rattle.std.proofs.Common.{arith}
 use Rattle.clock.specs.Word.{word_of, distance_span, time_span, lock_bit, top}
 use Rattle.clock.proofs.Laws.{bit_small}
 use Rattle.clock.proofs.join.Goals as goal
-
-pub overflow_mul-result : goal.overflow_mul-result
-overflow_mul-result c = omega (arith, bit_small c.args.locked)
 
 pub overflow_mul-result-2 : goal.overflow_mul-result-2
 unfolding distance_span

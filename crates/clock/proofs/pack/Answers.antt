@@ -1,9 +1,8 @@
 -- `clock::pack` meets its contract. Assumes nothing.
-use Rattle.clock.specs.declared.Packed.TheVariants.{Word}
-use mathlib.Core.Path.{ap, sym, ◌∙◌}
+use Rattle.std.specs.Prelude.{Ok}
+use Rattle.std.proofs.Common.{ap, sym, ◌∙◌, arith}
 use Rattle.clock.proofs.Laws.{packed_word, packed_far, packed-late}
 use Rattle.clock.specs.Word.{distance_span, time_span, top}
-use native.Mathlib.Omega.{arith}
 use Rattle.clock.proofs.pack.Goals as goal
 
 pub returns-then-distance-ge-DISTANCE_SPAN : goal.returns-then-distance-ge-DISTANCE_SPAN
@@ -20,4 +19,4 @@ join-requires c = omega arith
 
 pub returns : goal.returns
 unfolding distance_span top time_span
-returns c = ap Word c.join.ensures ∙ sym (packed_word _ _ _ (omega arith) (omega arith))
+returns c = ap Ok c.join.ensures ∙ sym (packed_word _ _ _ (omega arith) (omega arith))

@@ -1,7 +1,7 @@
 -- `clock::read_time` meets its contract. Assumes nothing.
 use Rattle.clock.proofs.Laws.{read_time-fits}
 use Rattle.clock.specs.Word.{read_time}
-use native.Mathlib.Omega.{arith}
+use Rattle.std.proofs.Common.{arith}
 use Rattle.clock.proofs.read_time.Goals as goal
 
 pub overflow_add-result : goal.overflow_add-result

@@ -1,5 +1,5 @@
 -- `clock::top` meets its contract. Assumes nothing.
-use mathlib.Core.Path.{refl}
+use Rattle.std.specs.Prelude.{refl}
 use Rattle.clock.specs.Word.{top, time_span}
 use Rattle.clock.proofs.top.Goals as goal
 

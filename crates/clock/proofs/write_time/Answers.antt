@@ -1,5 +1,5 @@
 -- `clock::write_time` meets its contract. Assumes nothing.
-use mathlib.Core.Path.{refl}
+use Rattle.std.specs.Prelude.{refl}
 use Rattle.clock.specs.Word.{write_time, time_span}
 use Rattle.clock.proofs.write_time.Goals as goal
 

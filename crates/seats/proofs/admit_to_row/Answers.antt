@@ -1,13 +1,8 @@
 -- `seats::admit_to_row` meets its contract. Assumes nothing.
-use Prim.Native.Nat.{ℕ}
-use mathlib.Core.Path.{◌≡◌, ◌∙◌, ap}
-use mathlib.Core.List.{List, [], ◌∷◌}
-use native.Mathlib.Omega.{arith}
-use borrow.Author.Tests.{eq-eqb, le-ltb, lt-ltb, ne_eqb}
-use lib.Dec.{ltb}
+use Rattle.std.specs.Prelude.{ℕ, ◌≡◌, List, [], ◌∷◌, ltb, Bool, false}
+use Rattle.std.proofs.Common.{◌∙◌, ap, arith, eq-eqb, le-ltb, lt-ltb, ne_eqb}
 use Rattle.rules.specs.Layout.{phase}
 use Rattle.rules.specs.Tests.{one_of, first_of}
-use mathlib.Core.Bool.{Bool, false}
 use Rattle.rules.specs.Refusals.{damaged, foreign, row_refusal}
 use Rattle.seats.specs.Heads.{head_is, admission}
 use Rattle.seats.specs.declared.Admission.TheVariants.{Ready}

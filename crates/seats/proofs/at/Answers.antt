@@ -1,5 +1,5 @@
 -- `seats::at` meets its contract. Assumes nothing.
-use mathlib.Core.Path.{sym}
+use Rattle.std.proofs.Common.{sym}
 use lib.ListN.{get_or-eq_default}
 use Rattle.seats.proofs.at.Goals as goal
 

@@ -1,7 +1,6 @@
 -- `seats::fill` meets its contract. Assumes nothing.
-use mathlib.Core.Path.{refl}
-use native.Mathlib.Omega.{arith}
-use lib.ListN.{length-set}
+use Rattle.std.specs.Prelude.{refl}
+use Rattle.std.proofs.Common.{arith, length-set}
 use Rattle.seats.specs.RowPart.{filled_end, filled_more}
 use Rattle.seats.proofs.fill.Goals as goal
 

@@ -1,7 +1,4 @@
-use Prim.Native.Nat.{◌-◌, ◌≤◌}
-use mathlib.Core.List.{◌++◌}
-use mathlib.Core.Path.{◌≡◌}
-use lib.ListN.{drop, length, replicate}
+use Rattle.std.specs.Prelude.{◌-◌, ◌≤◌, ◌++◌, ◌≡◌, drop, length, replicate}
 use Rattle.seats.proofs.fill.Given as goal
 
 abbrev pub invariant-loop-i : goal.invariant-loop-i

@@ -1,7 +1,5 @@
 -- `seats::find` meets its contract. Assumes nothing.
-use mathlib.Core.Path.{sym}
-use native.Mathlib.Omega.{arith}
-use borrow.Author.Tests.{eq-eqb, ne_eqb}
+use Rattle.std.proofs.Common.{sym, arith, eq-eqb, ne_eqb}
 use Rattle.rows.specs.Search.{found_first, found_none, passed_more, passed_none, within}
 use Rattle.seats.proofs.find.Goals as goal
 

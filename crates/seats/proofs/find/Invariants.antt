@@ -1,6 +1,4 @@
-use Prim.Native.Nat.{◌+◌, ◌*◌, ◌-◌}
-use lib.Dec.{eqb}
-use lib.ListN.{get_or}
+use Rattle.std.specs.Prelude.{◌+◌, ◌*◌, ◌-◌, eqb, get_or}
 use Rattle.rows.specs.Search.{Passed}
 use Rattle.seats.proofs.find.Given as goal
 

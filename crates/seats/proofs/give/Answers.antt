@@ -1,6 +1,5 @@
 -- `seats::give` meets its contract. Assumes nothing.
-use mathlib.Core.Path.{sym}
-use native.Mathlib.Omega.{arith}
+use Rattle.std.proofs.Common.{sym, arith}
 use Rattle.seats.specs.RowPart.{put_at, put_past}
 use Rattle.seats.proofs.give.Goals as goal
 

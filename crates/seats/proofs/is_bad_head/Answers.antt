@@ -1,7 +1,7 @@
 -- `seats::is_bad_head` meets its contract. Assumes nothing.
-use mathlib.Core.Path.{◌≡◌}
-use mathlib.Core.Bool.{◌||◌}
-use borrow.Author.Tests.{le-leb, le-ltb, lt-leb, lt-ltb}
+use Rattle.std.specs.Prelude.{◌≡◌, ◌||◌}
+use Rattle.std.proofs.Common.{le-leb, le-ltb, lt-ltb}
+use Rattle.std.proofs.lemmas.Bool.{lt-leb}
 use Rattle.rules.specs.Tests.{one_of}
 use Rattle.rules.specs.Refusals.{misplaced, late, bad_head}
 use Rattle.seats.specs.Heads.{head_row}

@@ -1,5 +1,6 @@
 -- `seats::is_bad_read` meets its contract. Assumes nothing.
-use borrow.Author.Tests.{le-leb, lt-leb}
+use Rattle.std.proofs.Common.{le-leb}
+use Rattle.std.proofs.lemmas.Bool.{lt-leb}
 use Rattle.rules.specs.Tests.{one_of}
 use Rattle.rules.specs.Refusals.{bad_read}
 use Rattle.seats.proofs.is_bad_read.Goals as goal

@@ -1,9 +1,6 @@
 -- `seats::is_damaged` meets its contract. Assumes nothing.
-use Prim.Native.Nat.{ℕ}
-use mathlib.Core.Path.{◌≡◌, ◌∙◌, sym}
-use mathlib.Core.Bool.{false, ◌||◌}
-use mathlib.Core.List.{List}
-use borrow.Author.Tests.{eq-eqb, ne_eqb}
+use Rattle.std.specs.Prelude.{ℕ, ◌≡◌, false, ◌||◌, List}
+use Rattle.std.proofs.Common.{◌∙◌, sym, eq-eqb, ne_eqb}
 use Rattle.rules.specs.Tests.{one_of}
 use Rattle.rules.specs.Refusals.{bad_head, bad_entry, damaged}
 use Rattle.seats.specs.Heads.{HeadOf, bad_head_lem, head-fits}

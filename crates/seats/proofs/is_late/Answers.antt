@@ -1,5 +1,6 @@
 -- `seats::is_late` meets its contract. Assumes nothing.
-use borrow.Author.Tests.{le-leb, lt-leb}
+use Rattle.std.proofs.Common.{le-leb}
+use Rattle.std.proofs.lemmas.Bool.{lt-leb}
 use Rattle.rules.specs.Refusals.{late}
 use Rattle.seats.proofs.is_late.Goals as goal
 

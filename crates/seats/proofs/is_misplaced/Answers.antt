@@ -1,6 +1,5 @@
 -- `seats::is_misplaced` meets its contract. Assumes nothing.
-use borrow.Author.Tests.{eq-eqb, ne_eqb}
-use native.Mathlib.Omega.{arith}
+use Rattle.std.proofs.Common.{eq-eqb, ne_eqb, arith}
 use Rattle.rules.specs.Refusals.{misplaced}
 use Rattle.seats.proofs.is_misplaced.Goals as goal
 

@@ -1,5 +1,5 @@
 -- `seats::is_unsized` meets its contract. Assumes nothing.
-use borrow.Author.Tests.{eq-eqb, le-ltb, lt-ltb, ne_eqb}
+use Rattle.std.proofs.Common.{eq-eqb, le-ltb, lt-ltb, ne_eqb}
 use Rattle.rules.specs.Refusals.{unsized}
 use Rattle.rules.specs.Tests.{one_of}
 use Rattle.seats.proofs.is_unsized.Goals as goal

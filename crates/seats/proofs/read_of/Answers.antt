@@ -1,5 +1,5 @@
 -- `seats::read_of` meets its contract. Assumes nothing.
-use mathlib.Core.Path.{◌∙◌, ap}
+use Rattle.std.proofs.Common.{◌∙◌, ap}
 use Rattle.rules.specs.Tests.{first}
 use Rattle.rules.specs.Work.{read_names}
 use Rattle.seats.proofs.read_of.Goals as goal

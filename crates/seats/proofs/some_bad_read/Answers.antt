@@ -1,5 +1,6 @@
 -- `seats::some_bad_read` meets its contract. Assumes nothing.
-use mathlib.Core.Path.{◌≡◌, ◌∙◌, sym}
+use Rattle.std.specs.Prelude.{◌≡◌}
+use Rattle.std.proofs.Common.{◌∙◌, sym}
 use Rattle.rules.specs.Refusals.{bad_read}
 use Rattle.rows.specs.Search.{none_passes, passed_more, passed_none, some_passes}
 use Rattle.seats.proofs.some_bad_read.Goals as goal

@@ -1,4 +1,4 @@
-use Prim.Native.Nat.{◌-◌}
+use Rattle.std.specs.Prelude.{◌-◌}
 use Rattle.rules.specs.Refusals.{bad_read}
 use Rattle.rows.specs.Search.{Passed}
 use Rattle.seats.proofs.some_bad_read.Given as goal

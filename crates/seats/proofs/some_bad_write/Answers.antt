@@ -1,6 +1,6 @@
 -- `seats::some_bad_write` meets its contract. Assumes nothing.
-use mathlib.Core.Path.{sym}
-use borrow.Author.Tests.{le-leb, lt-leb}
+use Rattle.std.proofs.Common.{sym, le-leb}
+use Rattle.std.proofs.lemmas.Bool.{lt-leb}
 use Rattle.rules.specs.Refusals.{bad_write}
 use Rattle.rows.specs.Search.{none_passes, passed_more, passed_none, some_passes}
 use Rattle.seats.proofs.some_bad_write.Goals as goal

@@ -1,4 +1,4 @@
-use Prim.Native.Nat.{◌-◌}
+use Rattle.std.specs.Prelude.{◌-◌}
 use Rattle.rules.specs.Refusals.{bad_write}
 use Rattle.rows.specs.Search.{Passed}
 use Rattle.seats.proofs.some_bad_write.Given as goal

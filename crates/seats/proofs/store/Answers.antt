@@ -1,5 +1,5 @@
 -- `seats::store` meets its contract. Assumes nothing.
-use mathlib.Core.Path.{sym}
+use Rattle.std.proofs.Common.{sym}
 use lib.Seq.{set_out}
 use Rattle.seats.proofs.store.Goals as goal
 

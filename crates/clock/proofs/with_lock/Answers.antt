@@ -1,8 +1,8 @@
--- `clock::lock` meets its contract. Assumes nothing.
+-- `clock::with_lock` meets its contract. Assumes nothing.
+use Rattle.std.proofs.Common.{arith}
 use Rattle.clock.proofs.Laws.{distance_small, write_time_small}
 use Rattle.clock.specs.Word.{with_lock}
-use native.Mathlib.Omega.{arith}
-use Rattle.clock.proofs.lock.Goals as goal
+use Rattle.clock.proofs.with_lock.Goals as goal
 
 pub join-requires : goal.join-requires
 join-requires c = omega (arith, distance_small c.args.w, write_time_small c.args.w)
