@@ -2,6 +2,7 @@
 use Rattle.rules.specs.Layout.{row_width}
 use Rattle.std.specs.Prelude.{ℕ, zero, suc, ◌+◌, ◌-◌, ◌*◌, ◌≤◌, ◌<◌, ◌≡◌, refl, Bool, true, false, cond, ◌≢◌}
 use Rattle.std.proofs.Common.{sym, ap, ◌∙◌, true≢false, arith, mul-le-mul_left, add-one, lt-ltb, le-ltb}
+use Rattle.std.proofs.Math.Decide.{dec_lt}
 use Rattle.rules.specs.Tests.{scan, first, any}
 
 abbrev pub Passed : (ℕ → Bool) → ℕ → ℕ → Type 0
@@ -103,3 +104,17 @@ scan_hit p (suc n) i h = go (p i) refl (λ l. scan_hit p n (suc i) l) h
 
 pub first_hit : (p : ℕ → Bool) (n : ℕ) → first p n < n → p (first p n) ≡ true
 first_hit p n h = scan_hit p n 0 (omega arith)
+
+-- a number that passes, and none below it does: it is the first
+pub first_is : (p : ℕ → Bool) (n i : ℕ) → i < n → p i ≡ true → ((k : ℕ) → k < i → p k ≡ false) → first p n ≡ i
+first_is p n i l e none =
+    let low : first p n ≤ i = scan_stops p n 0 i (omega arith) (omega arith) e in
+    let not_below : i ≤ first p n = not_lt (λ z. true≢false (sym (first_hit p n (omega arith)) ∙ none (first p n) z)) in
+    omega arith
+  where
+    not_lt : (first p n < i → ⊥) → i ≤ first p n
+    not_lt h = by (dec_lt (first p n) i)
+      where
+        by : Dec (first p n < i) → i ≤ first p n
+        by (yes z) = absurd (h z)
+        by (no z) = omega arith

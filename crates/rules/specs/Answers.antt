@@ -1,5 +1,6 @@
 -- The document's word and number for every case of an answer. Promises, the tape and the observer of demand 3 use these.
-use Rattle.std.specs.Prelude.{ℕ, String}
+use Rattle.std.specs.Prelude.{ℕ}
+use Prim.Native.String.{String}
 use Rattle.rules.specs.declared.Answer.{Answer}
 use Rattle.rules.specs.declared.Answer.TheVariants.{Ready, Seat, Value, Noted, Locked, Timed, Checked, Sealed, Stored, Done, Dropped, Refused, Aborted}
 

@@ -1,5 +1,6 @@
 -- The document's number of every refusal and of every abort.
-use Rattle.std.specs.Prelude.{ℕ}
+use Rattle.std.specs.Prelude.{ℕ, ◌≡◌, refl, cond, eqb}
+use Rattle.std.proofs.Common.{sym, ap, ◌∙◌}
 use Rattle.rules.specs.declared.Refusal.{Refusal}
 use Rattle.rules.specs.declared.Refusal.TheVariants.{WrongSizes, OutOfRange, Damaged, NotHeld, TooLate, AtLimit, Crowded, ReadsFull, WritesFull, ItemLocked, BadPlan, SetupAgain}
 use Rattle.rules.specs.declared.Abort.{Abort}
@@ -24,3 +25,36 @@ abort_number WordLocked = 21
 abort_number VersionGone = 22
 abort_number WordBlocked = 23
 abort_number TimeRunOut = 24
+
+-- the refusal of a number; any that has none is taken for the last
+abbrev pub numbered_as : ℕ → Refusal
+numbered_as n =
+    cond (eqb n 1) WrongSizes
+    (cond (eqb n 2) OutOfRange
+    (cond (eqb n 3) Damaged
+    (cond (eqb n 4) NotHeld
+    (cond (eqb n 5) TooLate
+    (cond (eqb n 6) AtLimit
+    (cond (eqb n 7) Crowded
+    (cond (eqb n 8) ReadsFull
+    (cond (eqb n 9) WritesFull
+    (cond (eqb n 10) ItemLocked
+    (cond (eqb n 11) BadPlan SetupAgain))))))))))
+
+reads_back : (why : Refusal) → numbered_as (refusal_number why) ≡ why
+reads_back WrongSizes = refl
+reads_back OutOfRange = refl
+reads_back Damaged = refl
+reads_back NotHeld = refl
+reads_back TooLate = refl
+reads_back AtLimit = refl
+reads_back Crowded = refl
+reads_back ReadsFull = refl
+reads_back WritesFull = refl
+reads_back ItemLocked = refl
+reads_back BadPlan = refl
+reads_back SetupAgain = refl
+
+-- no two refusals have one number
+pub one_number : (why also : Refusal) → refusal_number why ≡ refusal_number also → why ≡ also
+one_number why also e = sym (reads_back why) ∙ ap numbered_as e ∙ reads_back also

@@ -1,12 +1,12 @@
 -- A row's head, its first six numbers; and the admission of a call.
-use Rattle.std.specs.Prelude.{ℕ, ◌≤◌, ◌≡◌, false, cond, List, [], ◌∷◌, eqb}
-use Rattle.std.proofs.Common.{ap, arith, ltb-false}
+use Rattle.std.specs.Prelude.{ℕ, ◌≤◌, ◌≡◌, false, cond, List, [], ◌∷◌, eqb, Result, Ok, Err, is_ok}
+use Rattle.std.proofs.Common.{sym, ap, ◌∙◌, true≢false, arith, ltb-false}
 use Rattle.rules.specs.Layout.{most_reads, most_writes, phase, owner, position, reads, writes, time, read_item, kept_write}
 use Rattle.rules.specs.Refusals.{bad_head}
 use Rattle.rows.specs.Fine.{none_of}
 use Rattle.seats.specs.declared.Head.{Head}
-use Rattle.seats.specs.declared.Admission.{Admission}
-use Rattle.seats.specs.declared.Admission.TheVariants.{Refused, Ready}
+use Rattle.rules.specs.Numbers.{refusal_number, one_number}
+use Rattle.rules.specs.declared.Refusal.{Refusal}
 
 unfoldable pub head_of : List ℕ → Head
 head_of g =
@@ -48,13 +48,6 @@ pub bad_head_lem : {g : List ℕ} {h : Head} → HeadOf g h → bad_head (head_r
 unfolding bad_head head_row
 bad_head_lem q = simp (← q.phase_is, ← q.owner_is, ← q.position_is, ← q.reads_is, ← q.writes_is, ← q.time_is)
 
--- the numbers that the test of a read entry looks at
-pub record ReadOf (g : List ℕ) (i item kept_w ph t : ℕ) : Type 0 where
-  pub item_is : item ≡ read_item g i
-  pub kept_is : kept_w ≡ kept_write g i
-  pub phase_is : ph ≡ phase g
-  pub time_is : t ≡ time g
-
 -- a head that is in order has no more entries than a row can have
 pub head-fits : (g : List ℕ) {h : Head} → HeadOf g h → bad_head g ≡ false → (h.reads ≤ most_reads) × (h.writes ≤ most_writes)
 unfolding bad_head
@@ -65,5 +58,26 @@ head-fits g q e =
     (omega arith, omega arith)
 
 -- what a call comes to, before it begins, that is refused for `why`: 0 where it is not
-unfoldable pub admission : ℕ → List ℕ → Admission
-admission why g = cond (eqb why 0) (Ready (head_of g)) (Refused why)
+unfoldable pub admission : ℕ → List ℕ → Result Head ℕ
+admission why g = cond (eqb why 0) (Ok (head_of g)) (Err why)
+
+-- an admission with its refusal's number
+abbrev pub numbered : Result Head Refusal → Result Head ℕ
+numbered (Ok h) = Ok h
+numbered (Err why) = Err (refusal_number why)
+
+-- parts of an admission
+abbrev pub head_in : Head → Result Head ℕ → Head
+head_in other (Ok h) = h
+head_in other (Err why) = other
+
+abbrev pub number_in : Result Head ℕ → ℕ
+number_in (Ok h) = 0
+number_in (Err why) = why
+
+-- two admissions with the same number, or the same head, are the same
+pub one_admission : (r q : Result Head Refusal) → numbered r ≡ numbered q → r ≡ q
+one_admission (Ok h) (Ok k) e = ap Ok (ap (head_in h) e)
+one_admission (Ok h) (Err w) e = absurd (true≢false (ap is_ok e))
+one_admission (Err w) (Ok k) e = absurd (true≢false (sym (ap is_ok e)))
+one_admission (Err w) (Err v) e = ap Err (one_number w v (ap number_in e))

@@ -1,15 +1,16 @@
 -- What each public function promises, one statement a function: of its result `r`, or of what it leaves of a table, `left`.
 -- `NAME-one` says that the statement leaves one.
-use Rattle.std.specs.Prelude.{ℕ, min, max, ◌≡◌, Bool, List, length, get_or, set, replicate}
+use Rattle.std.specs.Prelude.{ℕ, min, ◌≡◌, Bool, List, get_or, set, Option, Result}
 use Rattle.clock.specs.Promises.{one_result}
-use Rattle.rules.specs.Tests.{first}
 use Rattle.rules.specs.Layout.{most_reads, most_writes, row, put}
 use Rattle.rules.specs.Tables.{Tables}
 use Rattle.rules.specs.Refusals.{unsized, refusal}
 use Rattle.rules.specs.Plan.{freed}
 use Rattle.rules.specs.Work.{read_names, write_names}
-use Rattle.seats.specs.declared.Admission.{Admission}
-use Rattle.seats.specs.Heads.{admission}
+use Rattle.rules.specs.declared.Refusal.{Refusal}
+use Rattle.seats.specs.declared.Head.{Head}
+use Rattle.seats.specs.Heads.{admission, numbered, one_admission}
+use Rattle.seats.specs.Search.{found}
 
 -- PLACES OF A TABLE
 -- what stands at a place; 0 past the table's end
@@ -25,18 +26,6 @@ StoredAt list i v left = left ≡ set list i v
 
 pub StoredAt-one : (list : List ℕ) (i v : ℕ) (l m : List ℕ) → StoredAt list i v l → StoredAt list i v m → l ≡ m
 StoredAt-one list i v l m = one_result
-
-abbrev pub Filled : List ℕ → ℕ → List ℕ → Type 0
-Filled list v left = left ≡ replicate (length list) v
-
-pub Filled-one : (list : List ℕ) (v : ℕ) (l m : List ℕ) → Filled list v l → Filled list v m → l ≡ m
-Filled-one list v l m = one_result
-
-abbrev pub GreaterIs : ℕ → ℕ → ℕ → Type 0
-GreaterIs a b r = r ≡ max a b
-
-pub GreaterIs-one : (a b r q : ℕ) → GreaterIs a b r → GreaterIs a b q → r ≡ q
-GreaterIs-one a b r q = one_result
 
 -- A SEAT'S ROW
 -- the part of the seat table that is the seat's row
@@ -59,17 +48,17 @@ RowFreed seats seat left = left ≡ freed seats seat
 pub RowFreed-one : (seats : List ℕ) (seat : ℕ) (l m : List ℕ) → RowFreed seats seat l → RowFreed seats seat m → l ≡ m
 RowFreed-one seats seat l m = one_result
 
--- the first of a row's n entries that names the record, of which there are no more than a row can have; their number where none does
-abbrev pub ReadEntryIs : List ℕ → ℕ → ℕ → ℕ → Type 0
-ReadEntryIs g n item r = r ≡ first (read_names g item) (min n most_reads)
+-- the first of a row's n entries that names the record, of which there are no more than a row can have
+abbrev pub ReadEntryIs : List ℕ → ℕ → ℕ → Option ℕ → Type 0
+ReadEntryIs g n item r = r ≡ found (read_names g item) (min n most_reads)
 
-pub ReadEntryIs-one : (g : List ℕ) (n item r q : ℕ) → ReadEntryIs g n item r → ReadEntryIs g n item q → r ≡ q
+pub ReadEntryIs-one : (g : List ℕ) (n item : ℕ) (r q : Option ℕ) → ReadEntryIs g n item r → ReadEntryIs g n item q → r ≡ q
 ReadEntryIs-one g n item r q = one_result
 
-abbrev pub WriteEntryIs : List ℕ → ℕ → ℕ → ℕ → Type 0
-WriteEntryIs g n item r = r ≡ first (write_names g item) (min n most_writes)
+abbrev pub WriteEntryIs : List ℕ → ℕ → ℕ → Option ℕ → Type 0
+WriteEntryIs g n item r = r ≡ found (write_names g item) (min n most_writes)
 
-pub WriteEntryIs-one : (g : List ℕ) (n item r q : ℕ) → WriteEntryIs g n item r → WriteEntryIs g n item q → r ≡ q
+pub WriteEntryIs-one : (g : List ℕ) (n item : ℕ) (r q : Option ℕ) → WriteEntryIs g n item r → WriteEntryIs g n item q → r ≡ q
 WriteEntryIs-one g n item r q = one_result
 
 -- REFUSALS
@@ -80,10 +69,10 @@ UnsizedIs values words seats r = r ≡ unsized values words seats
 pub UnsizedIs-one : (values words seats : ℕ) (r q : Bool) → UnsizedIs values words seats r → UnsizedIs values words seats q → r ≡ q
 UnsizedIs-one values words seats r q = one_result
 
--- refused for the lowest number that is due, or admitted with the head of its row
-abbrev pub Admitted : Tables → ℕ → ℕ → Bool → ℕ → Admission → Type 0
-Admitted t owner seat unknown last r = r ≡ admission (refusal t owner seat unknown last) (row t.seats seat)
+-- admitted with the head of its row, or refused for the lowest number that is due
+abbrev pub Admitted : Tables → ℕ → ℕ → Bool → ℕ → Result Head Refusal → Type 0
+Admitted t owner seat unknown last r = numbered r ≡ admission (refusal t owner seat unknown last) (row t.seats seat)
 
-pub Admitted-one : (t : Tables) (owner seat : ℕ) (unknown : Bool) (last : ℕ) (r q : Admission) →
+pub Admitted-one : (t : Tables) (owner seat : ℕ) (unknown : Bool) (last : ℕ) (r q : Result Head Refusal) →
     Admitted t owner seat unknown last r → Admitted t owner seat unknown last q → r ≡ q
-Admitted-one t owner seat unknown last r q = one_result
+Admitted-one t owner seat unknown last r q e f = one_admission r q (one_result e f)

@@ -1,15 +1,15 @@
 -- What a call knows once it is admitted, and what it comes to where it is not.
-use Rattle.std.specs.Prelude.{ℕ, ◌≤◌, ◌≡◌, refl, ◌≢◌, Bool, true, false, cond, List, eqb, length}
+use Rattle.std.specs.Prelude.{ℕ, ◌≤◌, ◌≡◌, refl, ◌≢◌, Bool, true, false, cond, List, eqb, length, Result, Ok, Err, is_ok}
 use Rattle.std.proofs.Common.{sym, ap, ◌∙◌, true≢false, arith, eqb-true}
 use Rattle.rules.specs.Layout.{row}
 use Rattle.rules.specs.Tables.{Tables, Outcome, answered, unless}
 use Rattle.rules.specs.Refusals.{refusal}
-use Rattle.rules.specs.declared.Answer.TheVariants.{Refused as Declined}
+use Rattle.rules.specs.Numbers.{refusal_number}
+use Rattle.rules.specs.declared.Answer.TheVariants.{Refused}
+use Rattle.rules.specs.declared.Refusal.{Refusal}
 use Rattle.rows.specs.Fine.{Sound, fine}
-use Rattle.seats.specs.Heads.{HeadOf, head_of, head_is, admission}
+use Rattle.seats.specs.Heads.{HeadOf, head_of, head_is, admission, numbered, head_in, number_in}
 use Rattle.seats.specs.declared.Head.{Head}
-use Rattle.seats.specs.declared.Admission.{Admission}
-use Rattle.seats.specs.declared.Admission.TheVariants.{Refused, Ready}
 
 -- the row is in use and not damaged, and begins with that head
 pub record InUse (g : List ℕ) (records : ℕ) (h : Head) : Type 0 where
@@ -17,51 +17,38 @@ pub record InUse (g : List ℕ) (records : ℕ) (h : Head) : Type 0 where
   pub used : h.phase ≢ 0
   pub sound : Sound g records
 
--- what an admission says
-abbrev why_of : Admission → ℕ
-why_of (Refused why) = why
-why_of (Ready h) = 0
-
-abbrev head_in : Head → Admission → Head
-head_in other (Refused why) = other
-head_in other (Ready h) = h
-
-abbrev is_ready : Admission → Bool
-is_ready (Refused why) = false
-is_ready (Ready h) = true
-
 -- an admission is one of the two
-ready-head : (why : ℕ) (g : List ℕ) (h : Head) → admission why g ≡ Ready h → (why ≡ 0) × (h ≡ head_of g)
+ready-head : (why : ℕ) (g : List ℕ) (h : Head) → admission why g ≡ Ok h → (why ≡ 0) × (h ≡ head_of g)
 unfolding admission
 ready-head why g h e = go (eqb why 0) refl e
   where
-    go : (b : Bool) → eqb why 0 ≡ b → cond b (Ready (head_of g)) (Refused why) ≡ Ready h → (why ≡ 0) × (h ≡ head_of g)
+    go : (b : Bool) → eqb why 0 ≡ b → cond b (Ok (head_of g)) (Err why) ≡ Ok h → (why ≡ 0) × (h ≡ head_of g)
     go true q z = (eqb-true why 0 q, sym (ap (head_in h) z))
-    go false q z = absurd (true≢false (sym (ap is_ready z)))
+    go false q z = absurd (true≢false (sym (ap is_ok z)))
 
-refused_why : (why : ℕ) (g : List ℕ) (m : ℕ) → admission why g ≡ Refused m → (eqb why 0 ≡ false) × (why ≡ m)
+refused_why : (why : ℕ) (g : List ℕ) (m : ℕ) → admission why g ≡ Err m → (eqb why 0 ≡ false) × (why ≡ m)
 unfolding admission
 refused_why why g m e = go (eqb why 0) refl e
   where
-    go : (b : Bool) → eqb why 0 ≡ b → cond b (Ready (head_of g)) (Refused why) ≡ Refused m → (eqb why 0 ≡ false) × (why ≡ m)
-    go true q z = absurd (true≢false (ap is_ready z))
-    go false q z = (q, ap why_of z)
+    go : (b : Bool) → eqb why 0 ≡ b → cond b (Ok (head_of g)) (Err why) ≡ Err m → (eqb why 0 ≡ false) × (why ≡ m)
+    go true q z = absurd (true≢false (ap is_ok z))
+    go false q z = (q, ap number_in z)
 
 -- A CALL THAT IS REFUSED answers that, and leaves the tables
-pub refused_call : (t : Tables) (why : ℕ) (g : List ℕ) (m : ℕ) (o : Outcome) → admission why g ≡ Refused m →
-    answered (Declined m) t ≡ unless why t o
-refused_call t why g m o e =
-    let z = refused_why why g m e in
+pub refused_call : (t : Tables) (why : ℕ) (g : List ℕ) (o : Outcome) {r : Result Head Refusal} {e : Refusal} → numbered r ≡ admission why g → r ≡ Err e →
+    answered (Refused (refusal_number e)) t ≡ unless why t o
+refused_call t why g o {r} {e} a is =
+    let z = refused_why why g (refusal_number e) (sym a ∙ ap numbered is) in
     rw (z.0, z.1)
 
 -- ONE THAT IS ADMITTED comes to what follows, and knows its row
-module _ (t : Tables) (o s : ℕ) (unknown : Bool) (last : ℕ) (h : Head)
-    (e : admission (refusal t o s unknown last) (row t.seats s) ≡ Ready h) where
+module _ (t : Tables) (o s : ℕ) (unknown : Bool) (last : ℕ) (h : Head) {r : Result Head Refusal}
+    (e : numbered r ≡ admission (refusal t o s unknown last) (row t.seats s)) (is : r ≡ Ok h) where
   not-refused : refusal t o s unknown last ≡ 0
-  not-refused = (ready-head _ _ h e).0
+  not-refused = (ready-head _ _ h (sym e ∙ ap numbered is)).0
 
   head_known : HeadOf (row t.seats s) h
-  head_known = head_is (ready-head _ _ h e).1
+  head_known = head_is (ready-head _ _ h (sym e ∙ ap numbered is)).1
 
   pub ready_call : (x : Outcome) → unless (refusal t o s unknown last) t x ≡ x
   ready_call x = rw not-refused refl

@@ -69,4 +69,4 @@ pub const STORING: u64 = 4;
 pub const PAST_PHASES: u64 = STORING + 1;
 
 // The greatest number of 64 bits.
-pub const GREATEST: u64 = 18446744073709551615;
+pub const GREATEST: u64 = u64::MAX;

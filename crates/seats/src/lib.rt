@@ -1,13 +1,14 @@
 // What the calls share: places of a table, a seat's row, and the refusals of a call that names a seat.
 #![tactic(auto)]
 
-ghost use Rattle.std.specs.Prelude.{◌≡◌, List, ℕ, ◌+◌, ◌*◌, min, ◌≤◌, eqb, get_or};
-ghost use Rattle.rules.specs.Tests.{any, first as first_of};
+ghost use Rattle.std.specs.Prelude.{◌≡◌, ◌+◌, ◌*◌, min, ◌≤◌, ◌<◌, eqb, get_or};
+ghost use Rattle.rules.specs.Tests.{any};
 ghost use Rattle.rules.specs.Layout.{most_reads, most_writes, row_width, row_at};
 ghost use Rattle.rules.specs.Lent.{lent};
 ghost use Rattle.rules.specs.Refusals.{misnamed, misplaced, late, bad_read, bad_write, bad_head, damaged, row_refusal};
-ghost use Rattle.seats.specs.Heads.{head_of, HeadOf, head_row, ReadOf, admission};
-ghost use Rattle.seats.specs.Promises.{PlaceIs, StoredAt, Filled, GreaterIs, RowIs, RowGiven, RowFreed, ReadEntryIs, WriteEntryIs};
+ghost use Rattle.seats.specs.Heads.{head_of, HeadOf, head_row, admission, numbered};
+ghost use Rattle.seats.specs.Promises.{PlaceIs, StoredAt, RowIs, RowGiven, RowFreed, ReadEntryIs, WriteEntryIs};
+ghost use Rattle.seats.specs.Search.{found};
 ghost use Rattle.seats.specs.Promises.{UnsizedIs, Admitted};
 
 pub mod layout;
@@ -37,8 +38,9 @@ pub fn at(list: &[u64], i: u64) -> u64
 pub fn store(list: &mut [u64], i: u64, v: u64)
     ensures { StoredAt list.old i v list.new }
 {
-    if let Some(place) = list.get_mut(i as usize) {
-        *place = v;
+    let k = i as usize;
+    if k < list.len() {
+        list[k] = v;
     }
 }
 
@@ -47,13 +49,9 @@ pub fn store(list: &mut [u64], i: u64, v: u64)
 fn row_from(n: u64, seat: u64) -> u64
     ensures { result ≡ min (row_at seat) n }
 {
-    if n < PLAN_WIDTH {
-        return n;
-    }
-    if (n - PLAN_WIDTH) / ROW_WIDTH < seat {
-        return n;
-    }
-    PLAN_WIDTH + ROW_WIDTH * seat
+    PLAN_WIDTH
+        .saturating_add(ROW_WIDTH.saturating_mul(seat))
+        .min(n)
 }
 
 // The part of the seat table that is the seat's row.
@@ -62,7 +60,7 @@ pub fn row_of(seats: &[u64], seat: u64) -> &[u64]
 {
     let n = seats.len() as u64;
     let from = row_from(n, seat);
-    let to = n.min(from + ROW_WIDTH);
+    let to = (from + ROW_WIDTH).min(n);
     &seats[from as usize..to as usize]
 }
 
@@ -83,7 +81,7 @@ pub fn free_row(seats: &mut [u64], seat: u64)
 {
     let n = seats.len() as u64;
     let from = row_from(n, seat);
-    let to = n.min(from + ROW_WIDTH);
+    let to = (from + ROW_WIDTH).min(n);
     seats[from as usize..to as usize].fill(0);
 }
 
@@ -114,14 +112,29 @@ pub fn write_of(row: &[u64], n: u64, item: u64) -> Option<u64>
 pub fn is_unsized(values: u64, words: u64, seats: u64) -> bool
     ensures { UnsizedIs values words seats result }
 {
-    values != words || words == 0 || MOST_RECORDS < words || seats != SEATS_LENGTH
+    if values != words {
+        return true;
+    }
+    if words == 0 {
+        return true;
+    }
+    if MOST_RECORDS < words {
+        return true;
+    }
+    seats != SEATS_LENGTH
 }
 
 // REFUSAL 2: an owner, a seat or a record out of range.
 fn is_misnamed(owner: u64, seat: u64, unknown: bool) -> bool
     ensures { result ≡ misnamed owner seat unknown }
 {
-    OWNERS <= owner || SEATS <= seat || unknown
+    if OWNERS <= owner {
+        return true;
+    }
+    if SEATS <= seat {
+        return true;
+    }
+    unknown
 }
 
 // REFUSAL 3: a damaged row.
@@ -159,20 +172,34 @@ impl Head {
     fn is_bad(self) -> bool
         ensures { result ≡ bad_head (head_row self) }
     {
-        STORING < self.phase
-            || OWNERS <= self.owner
-            || MOST_READS < self.reads
-            || MOST_WRITES < self.writes
-            || self.is_misplaced()
-            || self.is_late()
+        if STORING < self.phase {
+            return true;
+        }
+        if OWNERS <= self.owner {
+            return true;
+        }
+        if MOST_READS < self.reads {
+            return true;
+        }
+        if MOST_WRITES < self.writes {
+            return true;
+        }
+        if self.is_misplaced() {
+            return true;
+        }
+        self.is_late()
     }
 
     fn is_bad_read(self, row: &[u64], i: u64, records: u64) -> bool
         requires { HeadOf row.now self × (i < most_reads) }
         ensures { result ≡ bad_read row.now records i }
     {
-        records <= at(row, READ_ITEM + READ_WIDTH * i)
-            || CHECKING <= self.phase && self.time < at(row, KEPT_WRITE + READ_WIDTH * i)
+        let item = at(row, READ_ITEM + READ_WIDTH * i);
+        if records <= item {
+            return true;
+        }
+        let kept_write = at(row, KEPT_WRITE + READ_WIDTH * i);
+        CHECKING <= self.phase && self.time < kept_write
     }
 }
 
@@ -197,7 +224,13 @@ fn is_damaged(row: &[u64], head: Head, records: u64) -> bool
     if head.phase == FREE {
         return false;
     }
-    head.is_bad() || some_bad_read(row, head, records) || some_bad_write(row, head.writes, records)
+    if head.is_bad() {
+        return true;
+    }
+    if some_bad_read(row, head, records) {
+        return true;
+    }
+    some_bad_write(row, head.writes, records)
 }
 
 // ADMITTING A CALL that names a seat: the head of its row, or the refusal
@@ -210,7 +243,10 @@ fn admit_to_row(row: &[u64], records: u64, owner: u64, last: u64) -> Result<Head
     if is_damaged(row, head, records) {
         return Err(Refusal::Damaged);
     }
-    if head.phase == FREE || head.owner != owner {
+    if head.phase == FREE {
+        return Err(Refusal::NotHeld);
+    }
+    if head.owner != owner {
         return Err(Refusal::NotHeld);
     }
     if last < head.phase {

@@ -1,16 +1,15 @@
 -- `seats::admit_to_row` meets its contract. Assumes nothing.
-use Rattle.std.specs.Prelude.{ℕ, ◌≡◌, List, [], ◌∷◌, ltb, Bool, false}
+use Rattle.std.specs.Prelude.{Ok, ℕ, ◌≡◌, List, [], ◌∷◌, ltb, Bool, false}
 use Rattle.std.proofs.Common.{◌∙◌, ap, arith, eq-eqb, le-ltb, lt-ltb, ne_eqb}
 use Rattle.rules.specs.Layout.{phase}
 use Rattle.rules.specs.Tests.{one_of, first_of}
 use Rattle.rules.specs.Refusals.{damaged, foreign, row_refusal}
-use Rattle.seats.specs.Heads.{head_is, admission}
-use Rattle.seats.specs.declared.Admission.TheVariants.{Ready}
+use Rattle.seats.specs.Heads.{head_is, admission, numbered}
 use Rattle.seats.proofs.admit_to_row.Goals as goal
 use Rattle.seats.proofs.admit_to_row.Goals.{Else-head-owner}
 
 pub is_damaged-requires : goal.is_damaged-requires
-is_damaged-requires c = head_is c.head_of-head.ensures
+is_damaged-requires c = head_is c.of-head.ensures
 
 pub returns-then-is_damaged : goal.returns-then-is_damaged
 unfolding row_refusal first_of admission
@@ -25,14 +24,14 @@ in_order g records owner last is fine = simp (← is, fine)
 pub returns-then-head-eq-FREE : goal.returns-then-head-eq-FREE
 unfolding foreign one_of first_of admission
 returns-then-head-eq-FREE c =
-    let q = head_is c.head_of-head.ensures in
+    let q = head_is c.of-head.ensures in
     let left = in_order c.args.row.now c.args.records c.args.owner c.args.last c.is_damaged.ensures c.if-is_damaged.false in
     simp (left, ← q.phase_is, eq-eqb _ _ c.if-head-eq-FREE.true)
 
 pub returns-then-head-owner : goal.returns-then-head-owner
 unfolding foreign one_of first_of admission
 returns-then-head-owner c =
-    let q = head_is c.head_of-head.ensures in
+    let q = head_is c.of-head.ensures in
     let left = in_order c.args.row.now c.args.records c.args.owner c.args.last c.is_damaged.ensures c.if-is_damaged.false in
     simp (left, ← q.phase_is, ← q.owner_is, ne_eqb _ _ c.if-head-eq-FREE.false, ne_eqb _ _ c.if-head-owner.true)
 
@@ -41,12 +40,12 @@ own : (c : Else-head-owner) → row_refusal c.args.row.now c.args.records c.args
     ≡ first_of 5 (ltb c.args.last (phase c.args.row.now) ∷ [])
 unfolding foreign one_of first_of
 own c =
-    let q = head_is c.head_of-head.ensures in
+    let q = head_is c.of-head.ensures in
     in_order c.args.row.now c.args.records c.args.owner c.args.last c.is_damaged.ensures c.if-is_damaged.false
     ∙ simp (← q.phase_is, ← q.owner_is, ne_eqb _ _ c.if-head-eq-FREE.false, eq-eqb _ _ c.if-head-owner.false)
 
 pub returns : goal.returns
 unfolding first_of admission
 returns c =
-    let e = c.head_of-head.ensures in
-    simp (own (goal.at.returns c).Else-head-owner, ← (head_is e).phase_is, le-ltb c.args.last c.head_of-head.result.phase (omega arith)) (ap Ready e)
+    let e = c.of-head.ensures in
+    simp (own (goal.at.returns c).Else-head-owner, ← (head_is e).phase_is, le-ltb c.args.last c.of-head.result.phase (omega arith)) (ap Ok e)

@@ -4,4 +4,4 @@ use Rattle.seats.proofs.free_row.Goals as goal
 
 pub returns : goal.returns
 returns c =
-    freed-part _ _ c.row_from-from.ensures c.lesser-to.ensures c.fill.ensures
+    freed-part _ _ c.row_from-from.ensures c.min-to.ensures (c.fill.ensures.after (λ y e. e))

@@ -6,7 +6,7 @@ use Rattle.rules.specs.Refusals.{bad_head, bad_entry, damaged}
 use Rattle.seats.specs.Heads.{HeadOf, bad_head_lem, head-fits}
 use Rattle.seats.specs.declared.Head.{Head}
 use Rattle.seats.proofs.is_damaged.Goals as goal
-use Rattle.seats.proofs.is_damaged.Goals.{After-is_bad_head, Else-is_bad_head}
+use Rattle.seats.proofs.is_damaged.Goals.{After-is_bad, Else-is_bad}
 
 pub returns-then-head-eq-FREE : goal.returns-then-head-eq-FREE
 unfolding damaged
@@ -18,40 +18,40 @@ in_use : {head : Head} {g : List ℕ} (records : ℕ) → HeadOf g head → (hea
 unfolding damaged one_of
 in_use records is used = simp (← is.phase_is, ne_eqb _ _ used)
 
-head-is-bad : (c : After-is_bad_head) → bad_head c.args.row.now ≡ c.is_bad_head.result
+head-is-bad : (c : After-is_bad) → bad_head c.args.row.now ≡ c.is_bad.result
 head-is-bad c =
-    sym (c.is_bad_head.ensures ∙ bad_head_lem c.requires)
+    sym (c.is_bad.ensures ∙ bad_head_lem c.requires)
 
-pub returns-then-is_bad_head : goal.returns-then-is_bad_head
-returns-then-is_bad_head c =
-    let after_is_bad_head = (goal.at.returns-then-is_bad_head c).After-is_bad_head in
-    simp (in_use c.args.records c.requires c.if-head-eq-FREE.false, head-is-bad after_is_bad_head, c.if-is_bad_head.true)
+pub returns-then-is_bad : goal.returns-then-is_bad
+returns-then-is_bad c =
+    let after_is_bad = (goal.at.returns-then-is_bad c).After-is_bad in
+    simp (in_use c.args.records c.requires c.if-head-eq-FREE.false, head-is-bad after_is_bad, c.if-is_bad.true)
 
 -- A HEAD IN ORDER: the entries decide, of which there are no more than a row can have
-head-fine : (c : Else-is_bad_head) → bad_head c.args.row.now ≡ false
-head-fine c = sym (c.is_bad_head.ensures ∙ bad_head_lem c.requires) ∙ c.if-is_bad_head.false
+head-fine : (c : Else-is_bad) → bad_head c.args.row.now ≡ false
+head-fine c = sym (c.is_bad.ensures ∙ bad_head_lem c.requires) ∙ c.if-is_bad.false
 
-by_entries : (c : Else-is_bad_head) → damaged c.args.row.now c.args.records ≡ bad_entry c.args.row.now c.args.records
+by_entries : (c : Else-is_bad) → damaged c.args.row.now c.args.records ≡ bad_entry c.args.row.now c.args.records
 by_entries c = in_use _ c.requires c.if-head-eq-FREE.false ∙ rw (head-fine c)
 
 pub some_bad_read-requires : goal.some_bad_read-requires
 some_bad_read-requires c =
-    (c.requires, (head-fits _ c.requires (head-fine (goal.at.some_bad_read-requires c).Else-is_bad_head)).0)
+    (c.requires, (head-fits _ c.requires (head-fine (goal.at.some_bad_read-requires c).Else-is_bad)).0)
 
 pub returns-then-some_bad_read : goal.returns-then-some_bad_read
 unfolding bad_entry one_of
 returns-then-some_bad_read c =
-    simp (by_entries (goal.at.returns-then-some_bad_read c).Else-is_bad_head, ← c.requires.reads_is, ← c.some_bad_read.ensures, c.if-some_bad_read.true)
+    simp (by_entries (goal.at.returns-then-some_bad_read c).Else-is_bad, ← c.requires.reads_is, ← c.some_bad_read.ensures, c.if-some_bad_read.true)
 
 pub some_bad_write-requires : goal.some_bad_write-requires
 some_bad_write-requires c =
-    (head-fits _ c.requires (head-fine (goal.at.some_bad_write-requires c).Else-is_bad_head)).1
+    (head-fits _ c.requires (head-fine (goal.at.some_bad_write-requires c).Else-is_bad)).1
 
 pub returns : goal.returns
 unfolding bad_entry one_of
 returns c =
     simp (
-      by_entries (goal.at.returns c).Else-is_bad_head,
+      by_entries (goal.at.returns c).Else-is_bad,
       ← c.requires.reads_is,
       ← c.requires.writes_is,
       ← c.some_bad_read.ensures,

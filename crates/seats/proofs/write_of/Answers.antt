@@ -1,9 +1,9 @@
 -- `seats::write_of` meets its contract. Assumes nothing.
 use Rattle.std.proofs.Common.{◌∙◌, ap}
-use Rattle.rules.specs.Tests.{first}
+use Rattle.seats.specs.Search.{found}
 use Rattle.rules.specs.Work.{write_names}
 use Rattle.seats.proofs.write_of.Goals as goal
 
 pub returns : goal.returns
 unfolding write_names
-returns c = c.find.ensures ∙ ap (first _) c.lesser.ensures
+returns c = c.find.ensures ∙ ap (found _) c.min.ensures

@@ -1,6 +1,6 @@
--- `seats::head_of` meets its contract. Assumes nothing.
+-- `seats::Head::of` meets its contract. Assumes nothing.
 use Rattle.seats.specs.Heads.{head_of}
-use Rattle.seats.proofs.head_of.Goals as goal
+use Rattle.seats.proofs.Head.of.Goals as goal
 
 pub returns : goal.returns
 unfolding head_of

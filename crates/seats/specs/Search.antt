@@ -1,0 +1,29 @@
+-- A search among the numbers below n, and what is known where it has found one.
+use Rattle.std.specs.Prelude.{ℕ, ◌<◌, ◌≤◌, ◌≡◌, refl, Bool, true, false, cond, Option, Some, None, is_some}
+use Rattle.std.proofs.Common.{sym, ap, ◌∙◌, true≢false, ltb-true, ltb-false}
+use Rattle.rules.specs.Tests.{first, any}
+
+-- the first that passes, where one does
+abbrev pub found_by : Bool → ℕ → Option ℕ
+found_by any_passes i = cond any_passes (Some i) None
+
+abbrev pub found : (ℕ → Bool) → ℕ → Option ℕ
+found p n = found_by (any p n) (first p n)
+
+abbrev number_in : Option ℕ → ℕ
+number_in None = 0
+number_in (Some i) = i
+
+pub found_some : (p : ℕ → Bool) (n : ℕ) {i : ℕ} → found p n ≡ Some i → (first p n ≡ i) × (first p n < n)
+found_some p n {i} e = go (any p n) refl e
+  where
+    go : (b : Bool) → any p n ≡ b → found_by b (first p n) ≡ Some i → (first p n ≡ i) × (first p n < n)
+    go true q z = (ap number_in z, ltb-true _ _ q)
+    go false q z = absurd (true≢false (sym (ap is_some z)))
+
+pub found_none : (p : ℕ → Bool) (n : ℕ) → found p n ≡ None → n ≤ first p n
+found_none p n e = go (any p n) refl e
+  where
+    go : (b : Bool) → any p n ≡ b → found_by b (first p n) ≡ None → n ≤ first p n
+    go true q z = absurd (true≢false (ap is_some z))
+    go false q z = ltb-false _ _ q
