@@ -1,7 +1,8 @@
 -- P1 to P4 of document 01, and both sides of each limit of the word, computed from the definitions.
 use Rattle.std.specs.Prelude.{ℕ, ◌≡◌, refl, true, false, List, [], ◌∷◌, Result, Ok, Err}
 use Rattle.clock.specs.declared.Unfit.{Unfit}
-use Rattle.clock.specs.Word.{number, distance_span, time_span, top, lock_bit, distance, write_time, is_locked, word_of, fresh, extended, packed, fresh_at, extended_to}
+use Rattle.clock.specs.Word.{distance_span, time_span, top, lock_bit, distance, write_time, is_locked, word_of, fresh, extended}
+use Rattle.clock.specs.Word.{number, packed, fresh_at, extended_to}
 
 -- an answer in numbers: a word is itself, its write time and its distance; a refusal its number alone
 unfoldable pub shows : Result ℕ Unfit → List ℕ

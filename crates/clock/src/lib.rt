@@ -5,11 +5,11 @@ ghost use Rattle.std.specs.Prelude.{◌≡◌, ◌<◌, ◌≤◌};
 ghost use Rattle.clock.specs.Word.{distance_span, top, word_of, with_lock};
 ghost use Rattle.clock.specs.Promises.{TopIs, LockIs, DistanceIs, WriteTimeIs, ReadTimeIs, PartsAre, PackedIs, LockedIs, UnlockedIs, FreshIs, ExtendedIs};
 
-// Why there is no such word, with document 01's number.
+// Why there is no such word.
 #[derive(Clone, Copy, Debug, PartialEq, Eq)]
 pub enum Unfit {
-    // The parts or the time are not to be had in a word.
-    OutOfRange = 2,
+    // Refusal 2: the parts or the time are not to be had in a word.
+    OutOfRange,
 }
 
 // A word read apart.

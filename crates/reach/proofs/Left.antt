@@ -21,6 +21,7 @@ use Rattle.rules.specs.Advance.{done_step, lock_phase, check_phase, store_phase,
 use Rattle.rules.specs.Calls.{Call, Setup, Open, Read, Write, Advance, Abandon, step, history, told}
 use Rattle.rules.specs.declared.Answer.{Answer}
 use Rattle.rules.specs.declared.Answer.TheVariants.{Ready, Seat, Value, Noted, Locked, Timed, Checked, Sealed, Stored, Done, Dropped, Refused, Aborted}
+use Rattle.rules.specs.Numbers.{abort_number}
 use Rattle.rules.specs.declared.Verdict.{Verdict}
 use Rattle.rules.specs.declared.Verdict.TheVariants.{Passes, Extends, Fails}
 use Rattle.rows.specs.Fine.{cond_ind, Fine, fine, fine-row, locks_small, write_item_lem}
@@ -107,7 +108,7 @@ module _ (t : Tables) (o s : ℕ) (f : Fine t o s storing) where
   unfolding ruled passed passed_to
   ruled_leaves p Passes = plain t _ (Checked _) _ refl refl
   ruled_leaves p Extends = plain t _ (Checked _) _ refl refl
-  ruled_leaves p (Fails why) = aborting why (omega arith)
+  ruled_leaves p (Fails why) = aborting (abort_number why) (omega arith)
 
   advance_leaves : Leaves t (Advance o s) (advance_in t s)
   unfolding advance_in check_phase check_step seal_step store_phase store_step done_step

@@ -15,13 +15,15 @@ use Rattle.rules.specs.Layout.{kept_write, write_item, write_value}
 use Rattle.rules.specs.Places.{length-row}
 use Rattle.rules.specs.Tables.{Tables, answered, tables, with_seats, with_words}
 use Rattle.rules.specs.Advance.{moved, lock_step, commit_time, time_step, verdict, check_item, judged}
-use Rattle.rules.specs.Advance.{stretched, passed, ruled, check_step, passed_to, version_gone}
+use Rattle.rules.specs.Advance.{stretched, passed, ruled, check_step, passed_to}
 use Rattle.rules.specs.Advance.{word_locked}
 use Rattle.rules.specs.Advance.{time_run_out}
 use Rattle.rules.specs.Advance.{by_word}
 use Rattle.rules.specs.Advance.{seal_step, effect, store_step, done_step, lock_phase, check_phase, store_phase, advance_in}
 use Rattle.rules.specs.declared.Answer.{Answer}
 use Rattle.rules.specs.declared.Answer.TheVariants.{Locked, Timed, Checked, Sealed, Stored, Done, Aborted}
+use Rattle.rules.specs.Numbers.{abort_number}
+use Rattle.rules.specs.declared.Abort.TheVariants.{VersionGone}
 use Rattle.rules.specs.declared.Verdict.{Verdict}
 use Rattle.rules.specs.declared.Verdict.TheVariants.{Passes, Extends, Fails}
 use Rattle.rows.specs.Changed.{moved_row, Nudged, not_nudged, nudge_phase, nudge_position, nudge_time}
@@ -44,7 +46,7 @@ use Rattle.reach.proofs.Freed.{aborts, dones, free_step, lets_go}
 use Rattle.reach.proofs.Further.{tells_more}
 
 -- a verdict that extends, extends a word whose write time is the kept one
-by_tests : (a b : Bool) (o : Verdict) → cond a Passes (cond (not b) (Fails version_gone) o) ≡ Extends → b ≡ true
+by_tests : (a b : Bool) (o : Verdict) → cond a Passes (cond (not b) (Fails VersionGone) o) ≡ Extends → b ≡ true
 by_tests true b o e = absurd (let z : ◌≡◌ {A = ℕ} 0 1 = cc in omega arith)
 by_tests false true o e = refl
 by_tests false false o e = absurd (let z : ◌≡◌ {A = ℕ} 0 1 = cc in omega arith)
@@ -221,7 +223,7 @@ module _ (t : Tables) (s : ℕ) (size : length t.seats ≡ seats_length) (small 
       (λ q. ap one (now.is_locked ∙ ap (λ (j : ℕ). is_locked (get_or t.words j 0)) q)) (λ d. refl))
       (λ z l le. set_ind (λ v. read_time v ≤ top) t.words x (extended word (time g)) z inside
       (λ q. rw now.is_read u.head.timely) (λ d. le))
-  ruled_ok p b (Fails why) e = lets_go t s on_advance size small u (Aborted why) (aborts why) (omega arith)
+  ruled_ok p b (Fails why) e = let n = abort_number why in lets_go t s on_advance size small u (Aborted n) (aborts n) (omega arith)
 
   seal_ok : phase g ≡ 3 → reads g ≤ position g → Step t s on_advance (seal_step t s)
   unfolding seal_step on_advance

@@ -2,7 +2,8 @@
 use Rattle.std.specs.Prelude.{ℕ, ◌≡◌, refl, cond, eqb}
 use Rattle.std.proofs.Common.{sym, ap, ◌∙◌}
 use Rattle.rules.specs.declared.Refusal.{Refusal}
-use Rattle.rules.specs.declared.Refusal.TheVariants.{WrongSizes, OutOfRange, Damaged, NotHeld, TooLate, AtLimit, Crowded, ReadsFull, WritesFull, ItemLocked, BadPlan, SetupAgain}
+use Rattle.rules.specs.declared.Refusal.TheVariants.{WrongSizes, OutOfRange, Damaged, NotHeld, TooLate, AtLimit, Crowded}
+use Rattle.rules.specs.declared.Refusal.TheVariants.{ReadsFull, WritesFull, ItemLocked, BadPlan, SetupAgain}
 use Rattle.rules.specs.declared.Abort.{Abort}
 use Rattle.rules.specs.declared.Abort.TheVariants.{WordLocked, VersionGone, WordBlocked, TimeRunOut}
 

@@ -34,11 +34,16 @@ module _ {F : Type 0} (p : ℕ → Bool) (n : ℕ) (u : Range ℕ) (f : F) where
       → (xs : List ℕ) × (o : Option ℕ) × (j : F) × YieldsThen nat_range_steps below xs o u × FoldsTo (λ p x q. Called g p (x, tt) false q) f xs j
       × MatchOption o (r ≡ false) (λ x. (r ≡ true) × ((h : F) × Called g j (x, tt) true h))
       → ((x : ℕ) (b : Bool) (q : F) → Called g f (x, tt) b q → (q ≡ f) × (b ≡ p x)) → r ≡ any p n
-  any_in_range r ran is = any_from_yields_List p u f r ran (YieldsList-from_range 0 n n refl (omega arith)) is ∙ any_from p n 0 ∙ ap (ltb (first p n)) (let z : 0 + n ≡ n = omega arith in z)
+  any_in_range r ran is =
+      any_from_yields_List p u f r ran (YieldsList-from_range 0 n n refl (omega arith)) is
+      ∙ any_from p n 0
+      ∙ ap (ltb (first p n)) (let z : 0 + n ≡ n = omega arith in z)
 
   -- what is found: the first that passes, where one does
-  found_is : (r : Option ℕ) → MatchOption r ((k : ℕ) → 0 ≤ k → k < n → p k ≡ false) (λ i. (0 ≤ i) × (i < n) × (p i ≡ true) × ((k : ℕ) → 0 ≤ k → k < i → p k ≡ false)) →
-      r ≡ found p n
+  abbrev fails_below : ℕ → Type 0
+  fails_below i = (k : ℕ) → 0 ≤ k → k < i → p k ≡ false
+
+  found_is : (r : Option ℕ) → MatchOption r (fails_below n) (λ i. (0 ≤ i) × (i < n) × (p i ≡ true) × fails_below i) → r ≡ found p n
   found_is None h = rw (none_any p n (λ k l. h k (omega arith) l)) refl
   found_is (Some i) h = rw (first_is p n i h.1 h.2 (λ k l. h.3 k (omega arith) l), lt-ltb i n h.1) refl
 
@@ -47,4 +52,7 @@ module _ {F : Type 0} (p : ℕ → Bool) (n : ℕ) (u : Range ℕ) (f : F) where
       × MatchOption r ⊤ (λ x. (h : F) × CalledAt g j x true h)
       → ((x : ℕ) (b : Bool) (q : F) → CalledAt g f x b q → (q ≡ f) × (b ≡ p x)) → r ≡ found p n
   found_in_range r ran is =
-      found_is r (first_from_Range below u f r (λ x. p x ≡ true) (λ x. p x ≡ false) ran (λ x q c. sym (is x true q c).1) (λ x q c. ((is x false q c).0, sym (is x false q c).1)))
+      found_is r
+      (first_from_Range below u f r (λ x. p x ≡ true) (λ x. p x ≡ false) ran
+      (λ x q c. sym (is x true q c).1)
+      (λ x q c. ((is x false q c).0, sym (is x false q c).1)))

@@ -13,7 +13,14 @@ pub returns-then-self-ge-CHECKING : goal.returns-then-self-ge-CHECKING
 unfolding bad_read one_of
 returns-then-self-ge-CHECKING c =
     let head = c.requires.0 in
-    simp (← c.at-item.ensures, ← c.at-kept_write.ensures, ← head.phase_is, ← head.time_is, le-leb _ _ c.if-self-ge-CHECKING.true, lt-leb _ _ c.if-records-item.false)
+    simp (
+      ← c.at-item.ensures,
+      ← c.at-kept_write.ensures,
+      ← head.phase_is,
+      ← head.time_is,
+      le-leb _ _ c.if-self-ge-CHECKING.true,
+      lt-leb _ _ c.if-records-item.false,
+    )
 
 pub returns-else-self-ge-CHECKING : goal.returns-else-self-ge-CHECKING
 unfolding bad_read one_of
