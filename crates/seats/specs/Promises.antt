@@ -9,6 +9,9 @@ use Rattle.rules.specs.Plan.{freed}
 use Rattle.rules.specs.Work.{read_names, write_names}
 use Rattle.rules.specs.declared.Refusal.{Refusal}
 use Rattle.seats.specs.declared.Head.{Head}
+use Rattle.seats.specs.declared.ReadEntry.{ReadEntry}
+use Rattle.seats.specs.declared.WriteEntry.{WriteEntry}
+use Rattle.seats.specs.Entries.{read_entry, write_entry}
 use Rattle.seats.specs.Heads.{admission, numbered, one_admission}
 use Rattle.seats.specs.Search.{found}
 
@@ -47,6 +50,19 @@ RowFreed seats seat left = left ≡ freed seats seat
 
 pub RowFreed-one : (seats : List ℕ) (seat : ℕ) (l m : List ℕ) → RowFreed seats seat l → RowFreed seats seat m → l ≡ m
 RowFreed-one seats seat l m = one_result
+
+-- the numbers of a row's read entry i, and of its write entry i
+abbrev pub ReadEntryAt : List ℕ → ℕ → ReadEntry → Type 0
+ReadEntryAt g i r = r ≡ read_entry g i
+
+pub ReadEntryAt-one : (g : List ℕ) (i : ℕ) (r q : ReadEntry) → ReadEntryAt g i r → ReadEntryAt g i q → r ≡ q
+ReadEntryAt-one g i r q = one_result
+
+abbrev pub WriteEntryAt : List ℕ → ℕ → WriteEntry → Type 0
+WriteEntryAt g i r = r ≡ write_entry g i
+
+pub WriteEntryAt-one : (g : List ℕ) (i : ℕ) (r q : WriteEntry) → WriteEntryAt g i r → WriteEntryAt g i q → r ≡ q
+WriteEntryAt-one g i r q = one_result
 
 -- the first of a row's n entries that names the record, of which there are no more than a row can have
 abbrev pub ReadEntryIs : List ℕ → ℕ → ℕ → Option ℕ → Type 0

@@ -3,12 +3,11 @@
 
 ghost use Rattle.std.specs.Prelude.{◌≡◌, ◌+◌, ◌*◌, min, ◌≤◌, ◌<◌, eqb, get_or};
 ghost use Rattle.rules.specs.Tests.{any};
-ghost use Rattle.rules.specs.Layout.{most_reads, most_writes, row_width, row_at};
+ghost use Rattle.rules.specs.Layout.{row_at};
 ghost use Rattle.rules.specs.Lent.{lent};
 ghost use Rattle.rules.specs.Refusals.{misnamed, misplaced, late, bad_read, bad_write, bad_head, damaged, row_refusal};
 ghost use Rattle.seats.specs.Heads.{head_of, HeadOf, head_row, admission, numbered};
-ghost use Rattle.seats.specs.Promises.{PlaceIs, StoredAt, RowIs, RowGiven, RowFreed, ReadEntryIs, WriteEntryIs};
-ghost use Rattle.seats.specs.Search.{found};
+ghost use Rattle.seats.specs.Promises.{PlaceIs, StoredAt, RowIs, RowGiven, RowFreed, ReadEntryAt, WriteEntryAt, ReadEntryIs, WriteEntryIs};
 ghost use Rattle.seats.specs.Promises.{UnsizedIs, Admitted};
 
 pub mod layout;
@@ -85,27 +84,68 @@ pub fn free_row(seats: &mut [u64], seat: u64)
     seats[from as usize..to as usize].fill(0);
 }
 
-// The first of a row's n entries that names the record.
-// `first` is where the record's number stands in the first entry, `width` how far on in the next.
-fn find(row: &[u64], first: u64, width: u64, n: u64, item: u64) -> Option<u64>
-    requires { first + width * n ≤ row_width }
-    ensures { result ≡ found (λ i. eqb (get_or row.now (first + width * i) 0) item) n }
+// ITS ENTRIES
+// One of the first entry's numbers, or the same number of the entry i places on: `first` is where it stands, `width` how far on the next one's does.
+fn number_of(row: &[u64], first: u64, width: u64, i: u64) -> u64
+    ensures { result ≡ get_or row.now (first + width * i) 0 }
 {
-    (0..n).find(|&i| at(row, first + width * i) == item)
+    at(row, first.saturating_add(width.saturating_mul(i)))
+}
+
+// A read entry.
+#[derive(Clone, Copy, Debug, PartialEq, Eq)]
+pub struct ReadEntry {
+    pub item: u64,
+    pub value: u64,
+    pub kept_write: u64,
+    pub kept_read: u64,
+}
+
+impl ReadEntry {
+    // The row's read entry i.
+    pub fn of(row: &[u64], i: u64) -> ReadEntry
+        ensures { ReadEntryAt row.now i result }
+    {
+        ReadEntry {
+            item: number_of(row, READ_ITEM, READ_WIDTH, i),
+            value: number_of(row, READ_VALUE, READ_WIDTH, i),
+            kept_write: number_of(row, KEPT_WRITE, READ_WIDTH, i),
+            kept_read: number_of(row, KEPT_READ, READ_WIDTH, i),
+        }
+    }
+}
+
+// A write entry.
+#[derive(Clone, Copy, Debug, PartialEq, Eq)]
+pub struct WriteEntry {
+    pub item: u64,
+    pub value: u64,
+}
+
+impl WriteEntry {
+    // The row's write entry i.
+    pub fn of(row: &[u64], i: u64) -> WriteEntry
+        ensures { WriteEntryAt row.now i result }
+    {
+        WriteEntry {
+            item: number_of(row, WRITE_ITEM, WRITE_WIDTH, i),
+            value: number_of(row, WRITE_VALUE, WRITE_WIDTH, i),
+        }
+    }
 }
 
 // The first of a row's n read entries, of which there are no more than 16, that names the record.
 pub fn read_of(row: &[u64], n: u64, item: u64) -> Option<u64>
     ensures { ReadEntryIs row.now n item result }
 {
-    find(row, READ_ITEM, READ_WIDTH, n.min(MOST_READS), item)
+    (0..n.min(MOST_READS)).find(|&i| ReadEntry::of(row, i).item == item)
 }
 
 // The first of a row's n write entries, of which there are no more than 8, that names the record.
 pub fn write_of(row: &[u64], n: u64, item: u64) -> Option<u64>
     ensures { WriteEntryIs row.now n item result }
 {
-    find(row, WRITE_ITEM, WRITE_WIDTH, n.min(MOST_WRITES), item)
+    (0..n.min(MOST_WRITES)).find(|&i| WriteEntry::of(row, i).item == item)
 }
 
 // REFUSAL 1: the tables' lengths.
@@ -191,30 +231,28 @@ impl Head {
     }
 
     fn is_bad_read(self, row: &[u64], i: u64, records: u64) -> bool
-        requires { HeadOf row.now self × (i < most_reads) }
+        requires { HeadOf row.now self }
         ensures { result ≡ bad_read row.now records i }
     {
-        let item = at(row, READ_ITEM + READ_WIDTH * i);
-        if records <= item {
+        let entry = ReadEntry::of(row, i);
+        if records <= entry.item {
             return true;
         }
-        let kept_write = at(row, KEPT_WRITE + READ_WIDTH * i);
-        CHECKING <= self.phase && self.time < kept_write
+        CHECKING <= self.phase && self.time < entry.kept_write
     }
 }
 
 fn some_bad_read(row: &[u64], head: Head, records: u64) -> bool
-    requires { HeadOf row.now head × (head.reads ≤ most_reads) }
+    requires { HeadOf row.now head }
     ensures { result ≡ any (bad_read row.now records) head.reads }
 {
     (0..head.reads).any(|i| head.is_bad_read(row, i, records))
 }
 
 fn some_bad_write(row: &[u64], writes: u64, records: u64) -> bool
-    requires { writes ≤ most_writes }
     ensures { result ≡ any (bad_write row.now records) writes }
 {
-    (0..writes).any(|i| records <= at(row, WRITE_ITEM + WRITE_WIDTH * i))
+    (0..writes).any(|i| records <= WriteEntry::of(row, i).item)
 }
 
 fn is_damaged(row: &[u64], head: Head, records: u64) -> bool

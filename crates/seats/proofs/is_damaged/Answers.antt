@@ -3,7 +3,7 @@ use Rattle.std.specs.Prelude.{ℕ, ◌≡◌, false, ◌||◌, List}
 use Rattle.std.proofs.Common.{◌∙◌, sym, eq-eqb, ne_eqb}
 use Rattle.rules.specs.Tests.{one_of}
 use Rattle.rules.specs.Refusals.{bad_head, bad_entry, damaged}
-use Rattle.seats.specs.Heads.{HeadOf, bad_head_lem, head-fits}
+use Rattle.seats.specs.Heads.{HeadOf, bad_head_lem}
 use Rattle.seats.specs.declared.Head.{Head}
 use Rattle.seats.proofs.is_damaged.Goals as goal
 use Rattle.seats.proofs.is_damaged.Goals.{After-is_bad, Else-is_bad}
@@ -35,17 +35,12 @@ by_entries : (c : Else-is_bad) → damaged c.args.row.now c.args.records ≡ bad
 by_entries c = in_use _ c.requires c.if-head-eq-FREE.false ∙ rw (head-fine c)
 
 pub some_bad_read-requires : goal.some_bad_read-requires
-some_bad_read-requires c =
-    (c.requires, (head-fits _ c.requires (head-fine (goal.at.some_bad_read-requires c).Else-is_bad)).0)
+some_bad_read-requires c = c.requires
 
 pub returns-then-some_bad_read : goal.returns-then-some_bad_read
 unfolding bad_entry one_of
 returns-then-some_bad_read c =
     simp (by_entries (goal.at.returns-then-some_bad_read c).Else-is_bad, ← c.requires.reads_is, ← c.some_bad_read.ensures, c.if-some_bad_read.true)
-
-pub some_bad_write-requires : goal.some_bad_write-requires
-some_bad_write-requires c =
-    (head-fits _ c.requires (head-fine (goal.at.some_bad_write-requires c).Else-is_bad)).1
 
 pub returns : goal.returns
 unfolding bad_entry one_of

@@ -3,26 +3,35 @@ use Rattle.std.proofs.Common.{le-leb}
 use Rattle.std.proofs.lemmas.Bool.{lt-leb}
 use Rattle.rules.specs.Tests.{one_of}
 use Rattle.rules.specs.Refusals.{bad_read}
+use Rattle.seats.specs.Entries.{is_read}
 use Rattle.seats.proofs.Head.is_bad_read.Goals as goal
 
-pub returns-then-records-item : goal.returns-then-records-item
+pub returns-then-records-entry : goal.returns-then-records-entry
 unfolding bad_read one_of
-returns-then-records-item c = simp (← c.at-item.ensures, le-leb _ _ c.if-records-item.true)
+returns-then-records-entry c =
+    let entry = is_read c.args.row.now c.args.i c.of-entry.ensures in
+    simp (← entry.item_is, le-leb _ _ c.if-records-entry.true)
 
 pub returns-then-self-ge-CHECKING : goal.returns-then-self-ge-CHECKING
 unfolding bad_read one_of
 returns-then-self-ge-CHECKING c =
-    let head = c.requires.0 in
+    let entry = is_read c.args.row.now c.args.i c.of-entry.ensures in
     simp (
-      ← c.at-item.ensures,
-      ← c.at-kept_write.ensures,
-      ← head.phase_is,
-      ← head.time_is,
+      ← entry.item_is,
+      ← entry.kept_write_is,
+      ← c.requires.phase_is,
+      ← c.requires.time_is,
       le-leb _ _ c.if-self-ge-CHECKING.true,
-      lt-leb _ _ c.if-records-item.false,
+      lt-leb _ _ c.if-records-entry.false,
     )
 
 pub returns-else-self-ge-CHECKING : goal.returns-else-self-ge-CHECKING
 unfolding bad_read one_of
 returns-else-self-ge-CHECKING c =
-    simp (← c.at-item.ensures, ← c.requires.0.phase_is, lt-leb _ _ c.if-self-ge-CHECKING.false, lt-leb _ _ c.if-records-item.false)
+    let entry = is_read c.args.row.now c.args.i c.of-entry.ensures in
+    simp (
+      ← entry.item_is,
+      ← c.requires.phase_is,
+      lt-leb _ _ c.if-self-ge-CHECKING.false,
+      lt-leb _ _ c.if-records-entry.false,
+    )
