@@ -1,7 +1,5 @@
 -- `commit::advance_in` meets its contract. Assumes nothing.
-use native.Mathlib.Omega.{arith}
-use borrow.Author.Tests.{ne_eqb}
-use mathlib.Core.Path.{◌≡◌}
+use Rattle.std.proofs.Common.{arith, ne_eqb, ◌≡◌}
 use Rattle.rules.specs.Tables.{tables}
 use Rattle.rules.specs.Advance.{advance_in}
 use Rattle.commit.proofs.advance_in.Goals as goal

@@ -1,5 +1,5 @@
 -- `commit::check_phase` meets its contract. Assumes nothing.
-use borrow.Author.Tests.{le-ltb, lt-ltb}
+use Rattle.std.proofs.Common.{le-ltb, lt-ltb}
 use Rattle.rules.specs.Tables.{with_words}
 use Rattle.rules.specs.Advance.{check_phase}
 use Rattle.commit.proofs.check_phase.Goals as goal

@@ -1,5 +1,5 @@
 -- `commit::check_step` meets its contract. Assumes nothing.
-use mathlib.Core.Path.{◌∙◌, sym}
+use Rattle.std.proofs.Common.{◌∙◌, sym}
 use Rattle.rules.specs.Tables.{with_words, with_seats}
 use Rattle.seats.specs.Outcomes.{entry_at}
 use Rattle.commit.proofs.Checks.{check_passes, judged_covered}

@@ -1,5 +1,5 @@
 -- `commit::lock_phase` meets its contract. Assumes nothing.
-use borrow.Author.Tests.{le-ltb, lt-ltb}
+use Rattle.std.proofs.Common.{le-ltb, lt-ltb}
 use Rattle.rules.specs.Advance.{lock_phase}
 use Rattle.commit.proofs.lock_phase.Goals as goal
 

@@ -1,6 +1,5 @@
 -- `commit::lock_step` meets its contract. Assumes nothing.
-use mathlib.Core.Path.{refl}
-use native.Mathlib.Omega.{arith}
+use Rattle.std.proofs.Common.{refl, arith}
 use Rattle.rules.specs.Advance.{lock_step}
 use Rattle.seats.specs.Outcomes.{entry_at, same}
 use Rattle.commit.proofs.lock_step.Goals as goal

@@ -1,5 +1,5 @@
 -- `commit::store_phase` meets its contract. Assumes nothing.
-use borrow.Author.Tests.{le-ltb, lt-ltb}
+use Rattle.std.proofs.Common.{le-ltb, lt-ltb}
 use Rattle.rules.specs.Tables.{tables}
 use Rattle.rules.specs.Advance.{store_phase}
 use Rattle.commit.proofs.store_phase.Goals as goal

@@ -1,7 +1,5 @@
 -- `commit::time_step` meets its contract. Assumes nothing.
-use mathlib.Core.Path.{◌≡◌, refl}
-use native.Mathlib.Omega.{arith}
-use borrow.Author.Tests.{le-ltb, lt-ltb}
+use Rattle.std.proofs.Common.{◌≡◌, refl, arith, le-ltb, lt-ltb}
 use Rattle.rules.specs.Layout.{row}
 use Rattle.rules.specs.Advance.{commit_time, time_step}
 use Rattle.seats.specs.Outcomes.{next, same}
