@@ -37,6 +37,7 @@ unfolding released
 released-none words g = refl
 
 pub released_more : (words₀ g : List ℕ) (i : ℕ) {words words' : List ℕ} {item word free : ℕ} → words ≡ released words₀ g i →
-    item ≡ write_item g i → word ≡ get_or words item 0 → free ≡ with_lock false word → words' ≡ set words item free → words' ≡ released words₀ g (i + 1)
+    item ≡ write_item g i → word ≡ get_or words item 0 → free ≡ with_lock false word → words' ≡ set words item free →
+    words' ≡ released words₀ g (i + 1)
 unfolding released
 released_more words₀ g i e x y u m = rw (add-one i) (cc)

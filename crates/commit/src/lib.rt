@@ -311,8 +311,7 @@ fn advance_in(
     ensures { left result values.new words.new seats.new ≡ advance_in (lent values.old words.old seats.old) seat }
 {
     match head.phase {
-        WORKING => lock_phase(words, seats, seat, head),
-        LOCKING => lock_phase(words, seats, seat, head),
+        WORKING | LOCKING => lock_phase(words, seats, seat, head),
         CHECKING => check_phase(words, seats, seat, head),
         STORING => store_phase(values, words, seats, seat, head),
         FREE | PAST_PHASES..=GREATEST => Answer::Refused(3),

@@ -4,10 +4,6 @@ use Rattle.rules.specs.Tables.{with_words}
 use Rattle.rules.specs.Advance.{check_phase}
 use Rattle.commit.proofs.check_phase.Goals as goal
 
-pub check_step-requires : goal.check_step-requires
-check_step-requires c =
-    record { in_use = c.requires.in_use; phase_is = c.requires.phase_is; below = c.if-head.true }
-
 pub returns-then-head : goal.returns-then-head
 unfolding check_phase
 returns-then-head c = λ t.

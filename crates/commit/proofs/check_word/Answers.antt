@@ -38,8 +38,3 @@ returns-in-Extends c = λ t.
 pub returns-in-Fails : goal.returns-in-Fails
 returns-in-Fails c = λ t.
     c.abort.ensures t ∙ check_fails _ _ (verdict-is t (goal.at.returns-in-Fails c).After-judge ∙ c.in-Fails.is)
-
-pub abort-requires : goal.abort-requires
-abort-requires c =
-    let asked = c.requires in
-    record { in_use = asked.in_use; phase_in = omega (arith, asked.phase_is) }

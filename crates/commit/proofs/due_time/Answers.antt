@@ -14,7 +14,8 @@ pub returns : goal.returns
 returns c =
     let n = c.args.n in
     let due = due_by c.args.words.now c.args.row.now in
+    let numbers = YieldsList-from_range 0 n n c.map.ensures.source (omega arith) in
     fold_from_yields_List _ max _ _ c.fold.ensures.ran
-    (YieldsList-from_map _ due (YieldsList-from_range 0 n n c.map.ensures.source (omega arith)) c.map.ensures.closure (λ x r q k. search (rules, tests)))
+    (YieldsList-from_map _ due numbers c.map.ensures.closure (λ x r q k. search (rules, tests)))
     (λ a x b q k. search (rules, tests))
     ∙ due_is _ _ _ n
