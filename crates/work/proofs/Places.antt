@@ -1,7 +1,5 @@
 -- Where a new write entry is placed.
-use Prim.Native.Nat.{ℕ}
-use mathlib.Core.Path.{◌≡◌, sym}
-use mathlib.Core.List.{List}
+use Rattle.std.proofs.Common.{ℕ, ◌≡◌, sym, List}
 use Rattle.rules.specs.Tests.{first}
 use Rattle.rules.specs.Layout.{writes}
 use Rattle.rules.specs.Work.{above, place_of}

@@ -1,8 +1,5 @@
 -- The loop that makes room for a write entry: the last number first, so that the one read is still as it was.
-use Prim.Native.Nat.{ℕ, zero, suc, ◌+◌, ◌-◌, ◌≤◌, ◌<◌}
-use mathlib.Core.Path.{◌≡◌, refl, ap, ◌∙◌}
-use mathlib.Core.List.{List}
-use native.Mathlib.Omega.{arith}
+use Rattle.std.proofs.Common.{ℕ, zero, suc, ◌+◌, ◌-◌, ◌≤◌, ◌<◌, ◌≡◌, refl, ap, ◌∙◌, List, arith}
 use Rattle.rules.specs.Layout.{row_width, cell, put}
 use Rattle.rules.specs.Places.{cell-put_field}
 use Rattle.rules.specs.Work.{slid}

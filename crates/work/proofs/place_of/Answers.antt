@@ -1,6 +1,5 @@
 -- `work::place_of` meets its contract. Assumes nothing.
-use mathlib.Core.Path.{sym}
-use borrow.Author.Tests.{le-ltb, lt-ltb}
+use Rattle.std.proofs.Common.{sym, le-ltb, lt-ltb}
 use Rattle.rules.specs.Work.{above}
 use Rattle.rows.specs.Search.{found_first, found_none, passed_more, passed_none}
 use Rattle.work.proofs.place_of.Goals as goal

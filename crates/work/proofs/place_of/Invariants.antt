@@ -1,4 +1,4 @@
-use Prim.Native.Nat.{◌-◌}
+use Rattle.std.proofs.Common.{◌-◌}
 use Rattle.rules.specs.Work.{above}
 use Rattle.rows.specs.Search.{Passed}
 use Rattle.work.proofs.place_of.Given as goal

@@ -1,5 +1,5 @@
 -- `work::read` meets its contract. Assumes nothing.
-use mathlib.Core.Path.{◌∙◌, sym}
+use Rattle.std.proofs.Common.{◌∙◌, sym}
 use Rattle.rules.specs.Work.{read}
 use Rattle.seats.specs.Ready.{in_use, ready_call, refused_call}
 use Rattle.work.proofs.read.Goals as goal

@@ -1,6 +1,5 @@
 -- `work::slide` meets its contract. Assumes nothing.
-use mathlib.Core.Path.{◌∙◌, refl, sym}
-use native.Mathlib.Omega.{arith}
+use Rattle.std.proofs.Common.{◌∙◌, refl, sym, arith}
 use Rattle.seats.specs.Outcomes.{entry_at}
 use Rattle.work.proofs.Slides.{slid_end, slid_more, slid-none}
 use Rattle.work.proofs.slide.Goals as goal

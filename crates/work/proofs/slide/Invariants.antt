@@ -1,6 +1,4 @@
-use Prim.Native.Nat.{◌-◌, ◌≤◌}
-use mathlib.Core.Path.{◌≡◌}
-use lib.ListN.{length}
+use Rattle.std.proofs.Common.{◌-◌, ◌≤◌, ◌≡◌, length}
 use Rattle.rules.specs.Layout.{write_width}
 use Rattle.rules.specs.Work.{slid}
 use Rattle.work.proofs.slide.Given as goal

@@ -1,6 +1,5 @@
 -- `work::write` meets its contract. Assumes nothing.
-use mathlib.Core.Path.{◌∙◌, sym}
-use native.Mathlib.Omega.{arith}
+use Rattle.std.proofs.Common.{◌∙◌, sym, arith}
 use Rattle.rules.specs.Tables.{tables}
 use Rattle.rules.specs.Work.{write}
 use Rattle.seats.specs.Ready.{in_use, ready_call, refused_call}
