@@ -1,9 +1,8 @@
 -- `plan::claim_sum` meets its contract. Assumes nothing.
-use Rattle.std.proofs.Common.{ℕ, max, ◌<◌, ◌≤◌, ◌≡◌, ◌∙◌, refl, get_or, arith, rules, tests}
+use Rattle.std.proofs.Common.{ℕ, max, ◌∙◌, get_or, arith, rules, tests}
 use Rattle.std.proofs.lemmas.Iterator.{YieldsList-from_range, YieldsList-from_map}
 use Rattle.std.proofs.lemmas.Iterator.Consumers.{fits_from_yields_list, sum_from_yields_List}
-use Rattle.rules.specs.Layout.{owners, seat_count, share}
-use Rattle.rules.specs.Plan.{claim, claims}
+use Rattle.rules.specs.Layout.{owners, share}
 use Rattle.plan.proofs.Census.{claims_are, claims_small}
 use Rattle.plan.proofs.claim_sum.Goals as goal
 

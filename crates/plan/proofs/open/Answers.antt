@@ -1,5 +1,5 @@
 -- `plan::open` meets its contract. Assumes nothing.
-use Rattle.std.proofs.Common.{◌≡◌, ◌∙◌, sym, subst, Some, None, eq-eqb, le-leb, ne_eqb}
+use Rattle.std.proofs.Common.{◌≡◌, ◌∙◌, sym, eq-eqb, le-leb, ne_eqb}
 use Rattle.rules.specs.Tables.{tables}
 use Rattle.rules.specs.Plan.{open_refusal, open_seat}
 use Rattle.rows.specs.Fine.{sized_of}

@@ -17,9 +17,9 @@ pub returns-then-is_bad_plan : goal.returns-then-is_bad_plan
 unfolding plan_refusal unsound one_of
 returns-then-is_bad_plan c =
     elim c.then-is_bad_plan.branch [
-      then-is_bad_plan-via-then-is_bad_plan w ↦ simp (← c.is_bad_plan.ensures, w.if-is_bad_plan.true)
+      | then-is_bad_plan-via-then-is_bad_plan w ↦ simp (← c.is_bad_plan.ensures, w.if-is_bad_plan.true)
       | then-is_bad_plan-via-else-is_bad_plan+then-some_over w ↦
-        simp (← c.is_bad_plan.ensures, w.if-is_bad_plan.false, c.requires.rows_good, ← w.some_over.ensures, w.if-some_over.true)
+          simp (← c.is_bad_plan.ensures, w.if-is_bad_plan.false, c.requires.rows_good, ← w.some_over.ensures, w.if-some_over.true)
     ]
 
 -- NO OWNER OVER ITS LIMIT: U is left

@@ -1,8 +1,7 @@
 -- `plan::setup` meets its contract. Assumes nothing.
-use Rattle.std.proofs.Common.{◌≡◌, ◌∙◌, ap, sym, false, length}
+use Rattle.std.proofs.Common.{ap}
 use denote.Enum.Declared.{tag_of}
 use Rattle.clock.specs.contracts.Packed.{the_type}
-use Rattle.rules.specs.Refusals.{unsized}
 use Rattle.rules.specs.Plan.{setup, setup_refusal}
 use Rattle.plan.proofs.Start.{good_start, late-start}
 use Rattle.plan.proofs.setup.Goals as goal
@@ -29,7 +28,8 @@ unfolding setup setup_refusal
 returns c =
     let started = good_start _ c.fresh.ensures c.in-Word.is in
     simp (
-      ← c.is_unsized.ensures, c.if-is_unsized.false,
+      ← c.is_unsized.ensures,
+      c.if-is_unsized.false,
       started.0,
       ← c.is_bad_plan.ensures,
       c.if-is_bad_plan.false,
