@@ -9,7 +9,9 @@ use Rattle.rows.specs.Search.{Passed, passed_none, passed_more, found_first, fou
 -- of the first i numbers none passes
 none_below : (p : ℕ → Bool) (n i : ℕ) → i ≤ n → ((k : ℕ) → k < i → p k ≡ false) → Passed p n i
 none_below p n zero l h = passed_none p n
-none_below p n (suc i) l h = subst (Passed p n) (add-one i) (passed_more p n i (none_below p n i (omega arith) (λ k j. h k (omega arith))) (omega arith) (h i (omega arith)))
+none_below p n (suc i) l h =
+    let before = none_below p n i (omega arith) (λ k j. h k (omega arith)) in
+    subst (Passed p n) (add-one i) (passed_more p n i before (omega arith) (h i (omega arith)))
 
 -- the library's `find` over the numbers below n
 pub found_is : (p : ℕ → Bool) (n : ℕ) (r : Option ℕ) →
