@@ -1,13 +1,6 @@
 -- The check of a read entry: the verdict, and what it comes to.
-use Prim.Native.Nat.{ℕ, ◌≤◌, ◌<◌}
-use mathlib.Core.Path.{◌≡◌, refl, sym}
-use mathlib.Core.Bool.{Bool, true, false, cond, not}
-use mathlib.Core.List.{List}
-use native.Mathlib.Omega.{arith}
-use borrow.Author.Tests.{eqb-true, le-leb, lt-leb}
-use denote.Enum.Declared.{tag_of}
-use lib.Dec.{eqb, ltb}
-use lib.ListN.{get_or, set}
+use Rattle.std.proofs.Common.{ℕ, ◌≤◌, ◌<◌, ◌≡◌, refl, sym, Bool, true, false, cond, not, List, arith, eqb-true, le-leb, eqb, ltb, get_or, set}
+use borrow.Author.Tests.{lt-leb}
 use Rattle.clock.specs.Word.{top, write_time, extended}
 use Rattle.rules.specs.Layout.{row, read_item, kept_write, kept_read}
 use Rattle.rules.specs.Tables.{Tables, with_words}
@@ -16,22 +9,10 @@ use Rattle.rules.specs.Advance.{let_go, version_gone, by_word, verdict, is_own, 
 use Rattle.rules.specs.declared.Answer.TheVariants.{Aborted}
 use Rattle.rules.specs.declared.Verdict.{Verdict}
 use Rattle.rules.specs.declared.Verdict.TheVariants.{Passes, Extends, Fails}
-use Rattle.rules.specs.contracts.Verdict.{the_type}
 use Rattle.rows.specs.Fine.{kept_below, time-top}
 use Rattle.seats.specs.Heads.{HeadOf}
 use Rattle.seats.specs.declared.Head.{Head}
 use Rattle.commit.specs.Steps.{ChecksWord}
-
--- a match on a verdict
-pub is_passes : (v : Verdict) → tag_of the_type v ≡ 0 → v ≡ Passes
-is_passes Passes e = refl
-is_passes Extends e = absurd (omega arith)
-is_passes (Fails n) e = absurd (omega arith)
-
-pub is_extends : (v : Verdict) → tag_of the_type v ≡ 1 → v ≡ Extends
-is_extends Passes e = absurd (omega arith)
-is_extends Extends e = refl
-is_extends (Fails n) e = absurd (omega arith)
 
 module _ (t : Tables) (s : ℕ) {h : Head} (q : HeadOf (row t.seats s) h) where
   abbrev g : List ℕ

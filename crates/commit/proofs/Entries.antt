@@ -1,8 +1,5 @@
 -- The commit time and the held locks, as the code finds them.
-use Prim.Native.Nat.{ℕ, ◌≤◌}
-use mathlib.Core.Path.{◌≡◌, sym, ◌∙◌}
-use mathlib.Core.List.{List}
-use native.Mathlib.Omega.{arith}
+use Rattle.std.proofs.Common.{ℕ, ◌≤◌, ◌≡◌, sym, ◌∙◌, List, arith}
 use Rattle.rules.specs.Layout.{most_writes, reads, writes}
 use Rattle.rules.specs.Advance.{held_locks, seen_time, due_time, commit_time}
 use Rattle.rows.specs.Fine.{locks_small}

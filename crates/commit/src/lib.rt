@@ -19,7 +19,7 @@ ghost use Rattle.commit.specs.Promises.{AdvanceAnswered, AbandonAnswered};
 use clock::Packed;
 use rules::{Answer, Verdict};
 use seats::layout::*;
-use seats::{Admission, Head, admit, at, free_row, give, greater, row_of, store, write_of};
+use seats::{Admission, Head, admit, at, free_row, give, row_of, store, write_of};
 
 // The numbers of an abort.
 const WORD_LOCKED: u64 = 21;
@@ -36,12 +36,10 @@ fn release(words: &mut [u64], row: &[u64], n: u64)
     requires { n ≤ most_writes }
     ensures { words.new ≡ released words.old row.now n }
 {
-    let mut i = 0;
-    while i < n {
+    for i in 0..n {
         let item = at(row, WRITE_ITEM + WRITE_WIDTH * i);
         let word = at(words, item);
         store(words, item, clock::unlock(word));
-        i += 1;
     }
 }
 
@@ -102,13 +100,9 @@ fn seen_time(row: &[u64], n: u64) -> u64
     requires { n ≤ most_reads }
     ensures { result ≡ seen_time row.now n }
 {
-    let mut time = 0;
-    let mut i = 0;
-    while i < n {
-        time = greater(time, at(row, KEPT_WRITE + READ_WIDTH * i));
-        i += 1;
-    }
-    time
+    (0..n)
+        .map(|i| at(row, KEPT_WRITE + READ_WIDTH * i))
+        .fold(0, u64::max)
 }
 
 // The greatest of `from` and one more than the present read time of each of the first n records to be written.
@@ -116,14 +110,9 @@ fn due_time(words: &[u64], row: &[u64], from: u64, n: u64) -> u64
     requires { n ≤ most_writes }
     ensures { result ≡ due_time words.now row.now from n }
 {
-    let mut time = from;
-    let mut i = 0;
-    while i < n {
-        let word = at(words, at(row, WRITE_ITEM + WRITE_WIDTH * i));
-        time = greater(time, clock::read_time(word) + 1);
-        i += 1;
-    }
-    time
+    (0..n)
+        .map(|i| clock::read_time(at(words, at(row, WRITE_ITEM + WRITE_WIDTH * i))) + 1)
+        .fold(from, u64::max)
 }
 
 fn time_step(words: &mut [u64], seats: &mut [u64], seat: u64, head: Head) -> Answer
@@ -201,10 +190,8 @@ fn check_word(
 {
     let word = at(words, item);
     let row = row_of(seats, seat);
-    let w = write_of(row, head.writes, item);
-    let own = w < head.writes;
-    let found = judge(kept_write, head.time, word, own);
-    match found {
+    let own = write_of(row, head.writes, item) < head.writes;
+    match judge(kept_write, head.time, word, own) {
         Verdict::Passes => pass(seats, seat, head.position, item),
         Verdict::Extends => {
             store(words, item, extended_word(word, head.time));
@@ -323,10 +310,8 @@ fn advance_in(
     requires { InUse (row seats.old seat) (length words.old) head }
     ensures { left result values.new words.new seats.new ≡ advance_in (lent values.old words.old seats.old) seat }
 {
-    let phase = head.phase;
-    match phase {
-        WORKING => lock_phase(words, seats, seat, head),
-        LOCKING => lock_phase(words, seats, seat, head),
+    match head.phase {
+        WORKING | LOCKING => lock_phase(words, seats, seat, head),
         CHECKING => check_phase(words, seats, seat, head),
         STORING => store_phase(values, words, seats, seat, head),
         FREE | PAST_PHASES..=GREATEST => Answer::Refused(3),
@@ -343,8 +328,7 @@ pub fn advance(
 ) -> Answer
     ensures { AdvanceAnswered (lent values.old words.old seats.old) owner seat (left result values.new words.new seats.new) }
 {
-    let admission = admit(values, words, seats, owner, seat, false, STORING);
-    match admission {
+    match admit(values, words, seats, owner, seat, false, STORING) {
         Admission::Refused(why) => Answer::Refused(why),
         Admission::Ready(head) => advance_in(values, words, seats, seat, head),
     }
@@ -360,8 +344,7 @@ pub fn abandon(
 ) -> Answer
     ensures { AbandonAnswered (lent values.now words.old seats.old) owner seat (left result values.now words.new seats.new) }
 {
-    let admission = admit(values, words, seats, owner, seat, false, CHECKING);
-    match admission {
+    match admit(values, words, seats, owner, seat, false, CHECKING) {
         Admission::Refused(why) => Answer::Refused(why),
         Admission::Ready(head) => {
             let_go(words, seats, seat, head);

@@ -1,26 +1,20 @@
 -- The pass over the rows: what it holds after one seat more, and at its end; and what Open's tests have from it.
-use Prim.Native.Nat.{ℕ, zero, suc, ◌+◌, max, ◌<◌, ◌≤◌}
-use mathlib.Core.Path.{◌≡◌, refl, sym, ap, ◌∙◌}
-use mathlib.Core.Logic.{◌≢◌, inl, inr}
-use mathlib.Core.Bool.{Bool, true, false, cond, true≢false}
-use mathlib.Core.List.{List}
-use native.Mathlib.Omega.{arith}
+use Rattle.std.proofs.Common.{ℕ, zero, suc, ◌+◌, ◌*◌, max, ◌<◌, ◌≤◌, ◌≡◌, refl, sym, ap, ◌∙◌, ◌≢◌, Bool, true, false, cond, ◌||◌, List, map, sum}
+use Rattle.std.proofs.Common.{Option, Some, None, unwrap_or, arith, add-one, lt-ltb, le-ltb, eq-eqb, ne_eqb, eqb-true, eqb, length, get_or, set}
+use Rattle.std.proofs.Common.{replicate, length-set, get_or-set_same, get_or-set_other}
+use Rattle.std.specs.Option.{option_or}
+use Rattle.std.specs.List.{range_with_len}
 use native.Mathlib.Decide.{dec_lt}
-use native.Mathlib.Numerals.{add-one}
-use borrow.Author.Tests.{eq-eqb, ne_eqb, eqb-true, eqb-false, lt-leb}
-use lib.Dec.{eqb}
-use lib.ListN.{length, get_or, set, replicate, length-set, length-replicate, get_or-replicate, get_or-eq_default}
-use lib.Seq.{get_or-set_same, get_or-set_other}
-use Rattle.rules.specs.Tests.{any, count}
-use Rattle.rules.specs.Layout.{owners, seat_count, free, share}
+use borrow.Author.Tests.{eqb-false, lt-leb}
+use lib.ListN.{length-replicate, get_or-replicate, get_or-eq_default}
+use Rattle.rules.specs.Tests.{any, count, one_of}
+use Rattle.rules.specs.Layout.{owners, seat_count, free, share, limit}
 use Rattle.rules.specs.Tables.{Tables}
 use Rattle.rules.specs.Refusals.{unsized}
-use Rattle.rules.specs.Plan.{bad_plan, bad_row, holds, held, claim, unsound, plan_refusal, open_refusal, is_free, free_seat}
+use Rattle.rules.specs.Plan.{bad_plan, bad_row, over_limit, holds, held, claim, claims, unsound, plan_refusal, open_refusal, is_free, free_seat}
 use Rattle.rows.specs.Search.{Passed, passed_more, found_first, found_none, none_passes}
-use Rattle.rows.specs.Fine.{none_of, not_given}
-use Rattle.plan.specs.Census.{RowOf, Counts, Lowest, Census}
-use Rattle.plan.specs.declared.Rows.{Rows}
-use Rattle.plan.proofs.Plans.{share_small}
+use Rattle.plan.specs.Census.{RowOf, Counts, Lowest, Sound, Planned}
+use Rattle.plan.proofs.Plans.{share_small, sum_is, sum_le, sum_same}
 
 -- THE SEATS HELD
 count_le : (p : ℕ → Bool) (n : ℕ) → count p n ≤ n
@@ -73,43 +67,44 @@ module _ (seats : List ℕ) {counts : List ℕ} (n : ℕ) (h : Counts seats coun
           get_or-set_other counts w o (get_or counts w 0 + 1) 0 (λ q. other (sym q)) ∙ omega (arith, h.each o l)
 
 -- THE LOWEST FREE SEAT
-module _ (seats : List ℕ) (i : ℕ) {low : ℕ} where
-  -- it was found already
-  pub lowest_kept : Lowest seats i low → low < seat_count → Lowest seats (i + 1) low
-  lowest_kept (inr f) l = inr f
-  lowest_kept (inl f) l = absurd (omega arith)
-
-  -- it was not, and seat i is free, or is not
-  pub lowest_here : Lowest seats i low → seat_count ≤ low → i < seat_count → is_free seats i ≡ true → Lowest seats (i + 1) i
+module _ (seats : List ℕ) (i : ℕ) where
+  -- seat i is free, and the lowest one unless one was found already
+  pub lowest_here : (free : Option ℕ) → Lowest seats i free → i < seat_count → is_free seats i ≡ true → Lowest seats (i + 1) (option_or free (Some i))
   unfolding free_seat
-  lowest_here (inr f) a l e = absurd (omega arith)
-  lowest_here (inl f) a l e = inr (l, sym (found_first (is_free seats) seat_count i f.1 l e))
+  lowest_here None f l e = sym (found_first (is_free seats) seat_count i f l e)
+  lowest_here (Some s) f l e = f
 
-  pub lowest_past : Lowest seats i low → seat_count ≤ low → i < seat_count → is_free seats i ≡ false → Lowest seats (i + 1) low
-  lowest_past (inr f) a l e = inr f
-  lowest_past (inl f) a l e = inl (f.0, passed_more (is_free seats) seat_count i f.1 l e)
+  -- or it is not
+  pub lowest_past : (free : Option ℕ) → Lowest seats i free → i < seat_count → is_free seats i ≡ false → Lowest seats (i + 1) free
+  lowest_past None f l e = passed_more (is_free seats) seat_count i f l e
+  lowest_past (Some s) f l e = f
 
-  lowest_end : Lowest seats i low → seat_count ≤ i → low ≡ free_seat seats
+  lowest_end : (free : Option ℕ) → Lowest seats i free → seat_count ≤ i → unwrap_or free seat_count ≡ free_seat seats
   unfolding free_seat
-  lowest_end (inr f) l = f.1
-  lowest_end (inl f) l = f.0 ∙ sym (found_none (is_free seats) seat_count i f.1 l)
+  lowest_end None f l = sym (found_none (is_free seats) seat_count i f l)
+  lowest_end (Some s) f l = f
 
--- THE END OF THE PASS, at a bad row or after all of them
-pub census_bad : (seats counts : List ℕ) (low : ℕ) → any (bad_row seats) seat_count ≡ true → Census seats counts (record { bad = true; free = low })
-census_bad seats counts low e =
-    record { bad_is = sym e; counts_are = λ z. absurd (true≢false z); free_is = λ z. absurd (true≢false z) }
-
-pub census_sound : (seats counts : List ℕ) (i low : ℕ) → Passed (bad_row seats) seat_count i → Counts seats counts i → Lowest seats i low →
-    seat_count ≤ i → Census seats counts (record { bad = false; free = low })
-census_sound seats counts i low p h f l =
+-- THE END OF THE PASS
+pub census_sound : (seats counts : List ℕ) (i : ℕ) (free : Option ℕ) → Passed (bad_row seats) seat_count i → Counts seats counts i → Lowest seats i free →
+    seat_count ≤ i → Sound seats counts (unwrap_or free seat_count)
+census_sound seats counts i free p h f l =
     let e : i ≡ seat_count = omega arith in
-    record { bad_is = sym (none_passes _ _ _ p l); counts_are = λ _. rw (sym e) h; free_is = λ _. lowest_end seats i f l }
+    record { rows_good = none_passes _ _ _ p l; counts_are = rw (sym e) h; free_is = lowest_end seats i free f l }
 
 -- WHAT OPEN'S TESTS HAVE FROM IT
 module _ (seats : List ℕ) {counts : List ℕ} (h : Counts seats counts seat_count) where
   pub held_is : (o : ℕ) → o < owners → get_or counts o 0 ≡ held seats o
   unfolding held
   held_is o l = h.each o l
+
+  -- an owner over its limit, and one that is not
+  pub over_is : (o : ℕ) → o < owners → limit seats o < get_or counts o 0 → over_limit seats o ≡ true
+  unfolding over_limit
+  over_is o l k = lt-ltb _ _ (omega (arith, held_is o l))
+
+  pub within_is : (o : ℕ) → o < owners → get_or counts o 0 ≤ limit seats o → over_limit seats o ≡ false
+  unfolding over_limit
+  within_is o l k = le-ltb _ _ (omega (arith, held_is o l))
 
   pub claim_is : (o : ℕ) {r m s : ℕ} → o < owners → m ≡ get_or counts o 0 → s ≡ share seats o → r ≡ max m s → r ≡ claim seats o
   unfolding claim
@@ -121,13 +116,30 @@ module _ (seats : List ℕ) {counts : List ℕ} (h : Counts seats counts seat_co
   unfolding claim
   claim_small o e l = omega (arith, held_small seats seat_count h o, held_is o l, share_small seats o e l)
 
+-- U, as the code sums it up
+pub claims_are : {seats counts : List ℕ} → Planned seats counts →
+    sum (map (λ o. max (get_or counts o 0) (share seats o)) (range_with_len 0 owners)) ≡ claims seats
+unfolding claims
+claims_are {seats} {counts} h =
+    sum_is (λ o. max (get_or counts o 0) (share seats o)) owners
+    ∙ sum_same _ _ owners (λ o l. claim_is seats h.counts_are o l refl refl refl)
+
+-- and it is far from the end of 64 bits
+pub claims_small : {seats counts : List ℕ} → Planned seats counts → claims seats ≤ seat_count * owners
+unfolding claims
+claims_small {seats} h = sum_le (claim seats) owners (λ o l. claim_small seats h.counts_are o h.plan_good l)
+
 -- once Open's first two tests have passed, the plan decides
 pub by-plan : (t : Tables) (o : ℕ) → unsized (length t.values) (length t.words) (length t.seats) ≡ false → o < owners →
     open_refusal t o ≡ plan_refusal t.seats o
 unfolding open_refusal
 by-plan t o n l = simp (n, lt-leb _ _ l)
 
--- where it does not refuse, the pass went over all rows and found the lowest free seat
-pub free_found : {seats counts : List ℕ} {rows : Rows} (o : ℕ) → Census seats counts rows → plan_refusal seats o ≡ 0 → rows.free ≡ free_seat seats
-unfolding plan_refusal unsound
-free_found o h e = h.free_is (h.bad_is ∙ (none_of _ (not_given _ _ e).0).1.0)
+-- a bad row is refused
+pub row_refused : (seats : List ℕ) (o : ℕ) → any (bad_row seats) seat_count ≡ true → plan_refusal seats o ≡ 3
+unfolding plan_refusal unsound one_of
+row_refused seats o e = simp e (either (bad_plan seats) _)
+  where
+    either : (b : Bool) (x : ℕ) → cond (b || true) 3 x ≡ 3
+    either true x = refl
+    either false x = refl

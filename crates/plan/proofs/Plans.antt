@@ -1,28 +1,42 @@
 -- A plan: its tests, owner by owner, the sums over the owners, and the plan laid over a table.
-use Prim.Native.Nat.{ℕ, ◌+◌, ◌<◌, ◌≤◌}
-use mathlib.Core.Path.{◌≡◌, refl}
-use mathlib.Core.Bool.{true, false}
-use mathlib.Core.List.{List}
-use native.Mathlib.Omega.{arith}
-use native.Mathlib.Numerals.{add-one}
-use borrow.Author.Tests.{lt-ltb, le-ltb, ltb-false}
-use lib.Dec.{ltb}
-use lib.ListN.{get_or, set}
-use Rattle.rules.specs.Tests.{sum_to, one_of}
+use Rattle.std.proofs.Common.{ℕ, zero, suc, ◌+◌, ◌*◌, ◌<◌, ◌≤◌, ◌≡◌, ◌∙◌, refl, sym, ap, ◌⊎◌, inl, inr, subst, true≢false, Bool, true, false, List}
+use Rattle.std.proofs.Common.{map, sum, arith, add-one, lt-ltb, le-ltb, ltb-false, ltb, length, get_or, set, slice_index_or}
+use Rattle.std.specs.Bool.{MatchBool}
+use Rattle.std.specs.List.{range_with_len, HoldsAt, AllWithin}
+use Rattle.std.proofs.lemmas.List.FromFn.{length-range_with_len, get_or-range_with_len, sum_by-map-range_with_len_more}
+use Rattle.rules.specs.Tests.{any, sum_to, one_of}
 use Rattle.rules.specs.Layout.{owners, seat_count, share, limit}
 use Rattle.rules.specs.Plan.{bad_share, bad_plan, laid}
-use Rattle.rows.specs.Search.{Passed, some_passes, none_passes, none_at}
+use Rattle.rows.specs.Search.{Passed, some_passes, none_passes, none_any, none_at}
 use Rattle.rows.specs.Fine.{none_of}
+
+-- SOME OF THE OWNERS
+some_any : (p : ℕ → Bool) (n k : ℕ) → k < n → p k ≡ true → any p n ≡ true
+some_any p n k l e = go (any p n) refl
+  where
+    go : (b : Bool) → any p n ≡ b → any p n ≡ true
+    go true q = q
+    go false q = absurd (true≢false (sym e ∙ none_at p n k q l))
+
+number_at : (n k : ℕ) → k < n → slice_index_or (range_with_len 0 n) k 0 ≡ k
+number_at n k l = get_or-range_with_len 0 n k 0 l ∙ (let e : 0 + k ≡ k = omega arith in e)
+
+-- the library's `any` over the numbers below n
+pub any_is : (p : ℕ → Bool) (n : ℕ) (r : Bool) → (let below : List ℕ = range_with_len 0 n in
+    MatchBool r ((k : ℕ) × (k < length below) × HoldsAt (λ o. o < n → p o ≡ true) below k) (AllWithin (λ o. o < n → p o ≡ false) below 0 (length below))) →
+    r ≡ any p n
+any_is p n true (k, l, h) =
+    let below : k < n = omega (arith, length-range_with_len 0 n) in
+    sym (some_any p n k below (subst (λ o. o < n → p o ≡ true) (number_at n k below) (h 0) below))
+any_is p n false h =
+    sym (none_any p n (λ k l. subst (λ o. o < n → p o ≡ false) (number_at n k l) (h k 0 (omega arith) (omega (arith, length-range_with_len 0 n))) l))
 
 -- AN OWNER'S SHARE AND LIMIT
 module _ (plan : List ℕ) (o : ℕ) {s l : ℕ} (a : s ≡ share plan o) (b : l ≡ limit plan o) where
-  pub share_over : l < s → bad_share plan o ≡ true
+  pub share_bad : (l < s) ⊎ ((s ≤ l) × (seat_count < l)) → bad_share plan o ≡ true
   unfolding bad_share one_of
-  share_over h = simp (← a, ← b, lt-ltb _ _ h)
-
-  pub limit_over : s ≤ l → seat_count < l → bad_share plan o ≡ true
-  unfolding bad_share one_of
-  limit_over k h = simp (← a, ← b, le-ltb _ _ k, lt-ltb _ _ h)
+  share_bad (inl h) = simp (← a, ← b, lt-ltb _ _ h)
+  share_bad (inr h) = simp (← a, ← b, le-ltb _ _ h.0, lt-ltb _ _ h.1)
 
   pub share_good : s ≤ l → l ≤ seat_count → bad_share plan o ≡ false
   unfolding bad_share one_of
@@ -54,6 +68,24 @@ sum_none f = refl
 pub sum_more : (f : ℕ → ℕ) (i : ℕ) {n k : ℕ} → n ≡ sum_to f i → k ≡ f i → n + k ≡ sum_to f (i + 1)
 unfolding sum_to
 sum_more f i e m = rw (add-one i) (cc)
+
+pub sum_is : (f : ℕ → ℕ) (n : ℕ) → sum (map f (range_with_len 0 n)) ≡ sum_to f n
+unfolding sum_to
+sum_is f zero = refl
+sum_is f (suc n) =
+    ap (λ (k : ℕ). sum (map f (range_with_len 0 k))) (sym (add-one n))
+    ∙ sum_by-map-range_with_len_more (λ k. k) f 0 n n (omega arith)
+    ∙ ap (λ (k : ℕ). k + f n) (sum_is f n)
+
+pub sum_same : (f g : ℕ → ℕ) (n : ℕ) → ((o : ℕ) → o < n → f o ≡ g o) → sum_to f n ≡ sum_to g n
+unfolding sum_to
+sum_same f g zero h = refl
+sum_same f g (suc n) h = rw (sum_same f g n (λ o l. h o (omega arith)), h n (omega arith))
+
+pub sum_le : (f : ℕ → ℕ) (n : ℕ) → ((o : ℕ) → o < n → f o ≤ seat_count) → sum_to f n ≤ seat_count * n
+unfolding sum_to
+sum_le f zero h = omega arith
+sum_le f (suc n) h = omega (arith, h n (omega arith), sum_le f n (λ o l. h o (omega arith)))
 
 -- THE PLAN LAID over a table
 pub laid_none : (l plan : List ℕ) → l ≡ laid l plan 0

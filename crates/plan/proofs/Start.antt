@@ -1,12 +1,7 @@
 -- Setup's start: the clock's answer to it says whether it is above T.
-use Prim.Native.Nat.{ℕ, ◌<◌}
-use mathlib.Core.Path.{◌≡◌, sym, ap, ◌∙◌}
-use mathlib.Core.Bool.{true, false}
-use native.Mathlib.Omega.{arith}
+use Rattle.std.proofs.Common.{ℕ, ◌<◌, ◌≡◌, sym, ap, ◌∙◌, true, false, arith, lt-ltb, le-ltb, ltb}
 use native.Mathlib.Decide.{dec_lt}
-use borrow.Author.Tests.{lt-ltb, le-ltb}
 use denote.Enum.Declared.{tag_of}
-use lib.Dec.{ltb}
 use Rattle.clock.specs.declared.Packed.{Packed}
 use Rattle.clock.specs.declared.Packed.TheVariants.{Word}
 use Rattle.clock.specs.contracts.Packed.{the_type}

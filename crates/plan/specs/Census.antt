@@ -1,10 +1,9 @@
 -- One pass over the rows counts the seats that each owner holds, and finds a bad row or the lowest free seat. The tests of Open rest on it.
-use Rattle.std.specs.Prelude.{ℕ, ◌<◌, ◌≡◌, ◌⊎◌, false, List, length, get_or}
+use Rattle.std.specs.Prelude.{ℕ, ◌<◌, ◌≡◌, true, false, List, length, get_or, Option, Some, None}
 use Rattle.rules.specs.Tests.{any, count}
 use Rattle.rules.specs.Layout.{owners, seat_count, seats_length, row, phase, owner, share, limit}
 use Rattle.rules.specs.Plan.{bad_plan, bad_row, holds, held, claims, is_free, free_seat}
 use Rattle.rows.specs.Search.{Passed}
-use Rattle.plan.specs.declared.Rows.{Rows}
 
 -- the two numbers of a row that the pass looks at
 pub record RowOf (seats : List ℕ) (s ph o : ℕ) : Type 0 where
@@ -18,28 +17,35 @@ pub record Counts (seats counts : List ℕ) (n : ℕ) : Type 0 where
   pub each : (o : ℕ) → o < owners → get_or counts o 0 ≡ count (holds seats o) n
 
 -- the lowest free seat: none of them is free, or it is found
-abbrev pub Lowest : List ℕ → ℕ → ℕ → Type 0
-Lowest seats n free = ((free ≡ seat_count) × Passed (is_free seats) seat_count n) ⊎ ((free < seat_count) × (free ≡ free_seat seats))
+abbrev pub Lowest : List ℕ → ℕ → Option ℕ → Type 0
+Lowest seats n None = Passed (is_free seats) seat_count n
+Lowest seats n (Some free) = free ≡ free_seat seats
 
 -- BEFORE THE PASS: the table has its length, and nothing is counted
 pub record Uncounted (seats counts : List ℕ) : Type 0 where
   pub whole : length seats ≡ seats_length
   pub none : Counts seats counts 0
 
--- AFTER IT. The counts and the free seat mean something only where no row is bad
-pub record Census (seats counts : List ℕ) (rows : Rows) : Type 0 where
-  pub bad_is : rows.bad ≡ any (bad_row seats) seat_count
-  pub counts_are : rows.bad ≡ false → Counts seats counts seat_count
-  pub free_is : rows.bad ≡ false → rows.free ≡ free_seat seats
+-- AFTER IT: no row is bad, all seats are counted, and the lowest free one is found
+pub record Sound (seats counts : List ℕ) (free : ℕ) : Type 0 where
+  pub rows_good : any (bad_row seats) seat_count ≡ false
+  pub counts_are : Counts seats counts seat_count
+  pub free_is : free ≡ free_seat seats
+
+-- or a row is bad
+abbrev pub Census : List ℕ → List ℕ → Option ℕ → Type 0
+Census seats counts None = any (bad_row seats) seat_count ≡ true
+Census seats counts (Some free) = Sound seats counts free
 
 -- U can be summed up: all seats are counted, and no share is above 64
 pub record Planned (seats counts : List ℕ) : Type 0 where
   pub counts_are : Counts seats counts seat_count
   pub plan_good : bad_plan seats ≡ false
 
--- the tests of Open are for one of the sixteen owners
-pub record ForOwner (seats counts : List ℕ) (rows : Rows) (o : ℕ) : Type 0 where
-  pub census : Census seats counts rows
+-- the tests of Open are for one of the sixteen owners, where no row is bad
+pub record ForOwner (seats counts : List ℕ) (o : ℕ) : Type 0 where
+  pub rows_good : any (bad_row seats) seat_count ≡ false
+  pub counts_are : Counts seats counts seat_count
   pub owner_in : o < owners
 
 -- an owner's numbers, and U

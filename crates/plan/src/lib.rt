@@ -12,25 +12,20 @@ ghost use Rattle.plan.specs.Promises.{SetupAnswered, OpenAnswered};
 use clock::Packed;
 use rules::Answer;
 use seats::layout::*;
-use seats::{at, fill, free_row, give, greater, is_unsized, store};
+use seats::{at, fill, free_row, give, is_unsized, store};
 
 // A plan that Setup would refuse. `plan` is Setup's own, or a seat table, which begins with one.
 fn is_bad_plan(plan: &[u64]) -> bool
     ensures { result ≡ bad_plan plan.now }
 {
     let mut sum = 0;
-    let mut o = 0;
-    while o < OWNERS {
+    for o in 0..OWNERS {
         let share = at(plan, o);
         let limit = at(plan, LIMITS_FROM + o);
-        if limit < share {
-            return true;
-        }
-        if SEATS < limit {
+        if limit < share || SEATS < limit {
             return true;
         }
         sum += share;
-        o += 1;
     }
     SEATS < sum
 }
@@ -39,11 +34,8 @@ fn is_bad_plan(plan: &[u64]) -> bool
 fn lay(seats: &mut [u64], plan: &[u64])
     ensures { seats.new ≡ laid seats.old plan.now plan_width }
 {
-    let mut i = 0;
-    while i < PLAN_WIDTH {
-        let v = at(plan, i);
-        store(seats, i, v);
-        i += 1;
+    for i in 0..PLAN_WIDTH {
+        store(seats, i, at(plan, i));
     }
 }
 
@@ -74,15 +66,6 @@ pub fn setup(
 }
 
 // OPEN
-// What one pass over the rows finds, beside the seats that each owner holds.
-#[derive(Clone, Copy)]
-struct Rows {
-    // whether a row is one that Open refuses
-    bad: bool,
-    // the lowest free seat
-    free: u64,
-}
-
 fn is_bad_row(phase: u64, owner: u64) -> bool
     ensures { (seats : List ℕ) (s : ℕ) → RowOf seats s phase owner → result ≡ bad_row seats s }
 {
@@ -105,50 +88,39 @@ fn count(held: &mut [u64], phase: u64, owner: u64)
 }
 
 // The lowest free seat so far, and this one.
-fn lowest(free: u64, seat: u64, phase: u64) -> u64
+fn lowest(free: Option<u64>, seat: u64, phase: u64) -> Option<u64>
     requires { seat < seat_count }
     ensures { (seats : List ℕ) → phase ≡ phase_of (row seats seat) → Lowest seats seat free → Lowest seats (seat + 1) result }
 {
-    if free < SEATS {
+    if phase != FREE {
         return free;
     }
-    if phase == FREE {
-        return seat;
-    }
-    free
+    free.or(Some(seat))
 }
 
-fn take_census(seats: &[u64], held: &mut [u64]) -> Rows
+// The lowest free seat, beside the seats that each owner holds; none where a row is one that Open refuses.
+fn take_census(seats: &[u64], held: &mut [u64]) -> Option<u64>
     requires { Uncounted seats.now held.old }
     ensures { Census seats.now held.new result }
 {
-    let mut free = SEATS;
-    let mut i = 0;
-    while i < SEATS {
+    let mut free = None;
+    for i in 0..SEATS {
         let phase = at(seats, PLAN_WIDTH + ROW_WIDTH * i + PHASE);
         let owner = at(seats, PLAN_WIDTH + ROW_WIDTH * i + OWNER);
         if is_bad_row(phase, owner) {
-            return Rows { bad: true, free };
+            return None;
         }
         count(held, phase, owner);
         free = lowest(free, i, phase);
-        i += 1;
     }
-    Rows { bad: false, free }
+    Some(free.unwrap_or(SEATS))
 }
 
 fn some_over(seats: &[u64], held: &[u64]) -> bool
     requires { Counts seats.now held.now seat_count }
     ensures { result ≡ any (over_limit seats.now) owners }
 {
-    let mut o = 0;
-    while o < OWNERS {
-        if at(seats, LIMITS_FROM + o) < at(held, o) {
-            return true;
-        }
-        o += 1;
-    }
-    false
+    (0..OWNERS).any(|o| at(seats, LIMITS_FROM + o) < at(held, o))
 }
 
 // U: over all owners, the greater of held and share.
@@ -156,13 +128,7 @@ fn claim_sum(seats: &[u64], held: &[u64]) -> u64
     requires { Planned seats.now held.now }
     ensures { result ≡ claims_of seats.now }
 {
-    let mut sum = 0;
-    let mut o = 0;
-    while o < OWNERS {
-        sum += greater(at(held, o), at(seats, o));
-        o += 1;
-    }
-    sum
+    (0..OWNERS).map(|o| at(held, o).max(at(seats, o))).sum()
 }
 
 fn is_crowded(share: u64, mine: u64, claims: u64) -> bool
@@ -185,17 +151,11 @@ fn owner_refusal(share: u64, limit: u64, mine: u64, claims: u64) -> u64
 }
 
 // Refusals 3, 6 and 7, from the rows as they were counted.
-fn plan_refusal(seats: &[u64], held: &[u64], rows: Rows, owner: u64) -> u64
-    requires { ForOwner seats.now held.now rows owner }
+fn plan_refusal(seats: &[u64], held: &[u64], owner: u64) -> u64
+    requires { ForOwner seats.now held.now owner }
     ensures { result ≡ plan_refusal seats.now owner }
 {
-    if is_bad_plan(seats) {
-        return 3;
-    }
-    if rows.bad {
-        return 3;
-    }
-    if some_over(seats, held) {
+    if is_bad_plan(seats) || some_over(seats, held) {
         return 3;
     }
     let claims = claim_sum(seats, held);
@@ -226,11 +186,13 @@ pub fn open(values: &[u64], words: &[u64], seats: &mut [u64], owner: u64) -> Ans
         return Answer::Refused(2);
     }
     let mut held = [0u64; OWNERS as usize];
-    let rows = take_census(seats, &mut held);
-    let why = plan_refusal(seats, &held, rows, owner);
+    let Some(free) = take_census(seats, &mut held) else {
+        return Answer::Refused(3);
+    };
+    let why = plan_refusal(seats, &held, owner);
     if why != 0 {
         return Answer::Refused(why);
     }
-    open_row(seats, rows.free, owner);
-    Answer::Seat(rows.free)
+    open_row(seats, free, owner);
+    Answer::Seat(free)
 }

@@ -1,8 +1,5 @@
 -- The loop that makes room for a write entry: the last number first, so that the one read is still as it was.
-use Prim.Native.Nat.{ℕ, zero, suc, ◌+◌, ◌-◌, ◌≤◌, ◌<◌}
-use mathlib.Core.Path.{◌≡◌, refl, ap, ◌∙◌}
-use mathlib.Core.List.{List}
-use native.Mathlib.Omega.{arith}
+use Rattle.std.proofs.Common.{ℕ, zero, suc, ◌+◌, ◌-◌, ◌≤◌, ◌<◌, ◌≡◌, refl, ◌∙◌, List, arith}
 use Rattle.rules.specs.Layout.{row_width, cell, put}
 use Rattle.rules.specs.Places.{cell-put_field}
 use Rattle.rules.specs.Work.{slid}
@@ -27,6 +24,3 @@ module _ (l : List ℕ) (s e w : ℕ) (some : 0 < w) (room : e + w ≤ row_width
       let k : e - suc (e - p) ≡ p - 1 = omega arith in
       let was : v ≡ cell l s (p - 1) = r ∙ rw q (slid_below (e - p) (p - 1) (omega arith)) in
       rw (n, k) (cc)
-
-pub slid_end : (l : List ℕ) (s e w from p : ℕ) {m : List ℕ} → p ≤ from → from ≤ p → m ≡ slid l s e w (e - p) → m ≡ slid l s e w (e - from)
-slid_end l s e w from p a b q = q ∙ ap (λ (k : ℕ). slid l s e w (e - k)) (let z : p ≡ from = omega arith in z)

@@ -89,8 +89,7 @@ pub fn read(
     ensures { ReadAnswered (lent values.now words.now seats.old) owner seat item (left result values.now words.now seats.new) }
 {
     let unknown = words.len() as u64 <= item;
-    let admission = admit(values, words, seats, owner, seat, unknown, WORKING);
-    match admission {
+    match admit(values, words, seats, owner, seat, unknown, WORKING) {
         Admission::Refused(why) => Answer::Refused(why),
         Admission::Ready(head) => read_in(values, words, seats, seat, head, item),
     }
@@ -102,14 +101,9 @@ fn place_of(row: &[u64], n: u64, item: u64) -> u64
     requires { n ≤ most_writes }
     ensures { result ≡ first_of (above row.now item) n }
 {
-    let mut i = 0;
-    while i < n {
-        if item < at(row, WRITE_ITEM + WRITE_WIDTH * i) {
-            return i;
-        }
-        i += 1;
-    }
-    n
+    (0..n)
+        .find(|&i| item < at(row, WRITE_ITEM + WRITE_WIDTH * i))
+        .unwrap_or(n)
 }
 
 // The row's numbers from place `from` to place `to` move up by one write entry, the last first.
@@ -117,9 +111,7 @@ fn slide(seats: &mut [u64], seat: u64, from: u64, to: u64)
     requires { RoomAbove from to }
     ensures { seats.new ≡ slid seats.old seat to write_width (to - from) }
 {
-    let mut p = to;
-    while from < p {
-        p -= 1;
+    for p in (from..to).rev() {
         let v = at(row_of(seats, seat), p);
         give(seats, seat, p + WRITE_WIDTH, v);
     }
@@ -169,8 +161,7 @@ pub fn write(
     ensures { WriteAnswered (lent values.now words.now seats.old) owner seat item value (left result values.now words.now seats.new) }
 {
     let unknown = words.len() as u64 <= item;
-    let admission = admit(values, words, seats, owner, seat, unknown, WORKING);
-    match admission {
+    match admit(values, words, seats, owner, seat, unknown, WORKING) {
         Admission::Refused(why) => Answer::Refused(why),
         Admission::Ready(head) => write_in(seats, seat, head, item, value),
     }

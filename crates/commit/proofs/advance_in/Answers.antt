@@ -1,36 +1,24 @@
 -- `commit::advance_in` meets its contract. Assumes nothing.
-use native.Mathlib.Omega.{arith}
-use borrow.Author.Tests.{ne_eqb}
-use mathlib.Core.Path.{◌≡◌}
-use Rattle.rules.specs.Tables.{tables}
-use Rattle.rules.specs.Advance.{advance_in}
+use Rattle.std.proofs.Common.{ℕ, ◌<◌, ◌≡◌, ◌∙◌, refl, sym, Bool, true, false, cond, eqb, eq-eqb, arith}
+use borrow.Author.Tests.{eqb-false}
+use Rattle.rules.specs.Layout.{working, locking, checking, row, phase}
+use Rattle.rules.specs.Tables.{Tables, tables}
+use Rattle.rules.specs.Advance.{advance_in, lock_phase}
 use Rattle.commit.proofs.advance_in.Goals as goal
 
-pub lock_phase-requires : goal.lock_phase-requires
-lock_phase-requires c =
-    record { in_use = c.requires; phase_in = omega (arith, c.in-1.is) }
-
-pub lock_phase-requires-in-2 : goal.lock_phase-requires-in-2
-lock_phase-requires-in-2 c =
-    record { in_use = c.requires; phase_in = omega (arith, c.in-2.is) }
-
-pub check_phase-requires : goal.check_phase-requires
-check_phase-requires c =
-    record { in_use = c.requires; phase_is = c.in-3.is }
-
-pub store_phase-requires : goal.store_phase-requires
-store_phase-requires c =
-    record { in_use = c.requires; phase_is = c.in-4.is }
+-- phases 1 and 2 come to the same
+locking_is : (t : Tables) (s : ℕ) {ph : ℕ} → ph ≡ phase (row t.seats s) → 0 < ph → ph < checking → advance_in t s ≡ lock_phase t s
+unfolding advance_in
+locking_is t s {ph} e a b = simp (← e) (either ph _ _ (eqb ph working) a b refl)
+  where
+    either : {A : Type 0} (ph : ℕ) (x y : A) (w : Bool) → 0 < ph → ph < checking → eqb ph working ≡ w → cond (eqb ph working) x (cond (eqb ph locking) x y) ≡ x
+    either ph x y true a b q = rw q refl
+    either ph x y false a b q = let n = eqb-false ph working q in rw (q, eq-eqb ph locking (omega arith)) refl
 
 pub returns-in-1 : goal.returns-in-1
-unfolding advance_in
 returns-in-1 c =
-    simp (← c.requires.head.phase_is, c.in-1.is) (c.lock_phase.ensures (tables c.args.values.now c.args.words.now c.args.seats.now))
-
-pub returns-in-2 : goal.returns-in-2
-unfolding advance_in
-returns-in-2 c =
-    simp (← c.requires.head.phase_is, c.in-2.is) (c.lock_phase-in-2.ensures (tables c.args.values.now c.args.words.now c.args.seats.now))
+    c.lock_phase.ensures (tables c.args.values.now c.args.words.now c.args.seats.now)
+    ∙ sym (locking_is _ _ c.requires.head.phase_is (omega arith) (omega arith))
 
 pub returns-in-3 : goal.returns-in-3
 unfolding advance_in
@@ -39,24 +27,4 @@ returns-in-3 c =
 
 pub returns-in-4 : goal.returns-in-4
 unfolding advance_in
-returns-in-4 c =
-    simp (← c.requires.head.phase_is, c.in-4.is) c.store_phase.ensures
-
--- a free row, and a phase above 4
-pub returns-in-0 : goal.returns-in-0
-unfolding advance_in
-returns-in-0 c =
-    let is_free : c.args.head.phase ≡ 0 = omega arith in
-    simp (← c.requires.head.phase_is, is_free)
-
-pub returns-in-0-2 : goal.returns-in-0-2
-unfolding advance_in
-returns-in-0-2 c =
-    let phase = c.args.head.phase in
-    simp (
-      ← c.requires.head.phase_is,
-      ne_eqb phase 4 (λ e. omega arith),
-      ne_eqb phase 3 (λ e. omega arith),
-      ne_eqb phase 2 (λ e. omega arith),
-      ne_eqb phase 1 (λ e. omega arith),
-    )
+returns-in-4 c = simp (← c.requires.head.phase_is, c.in-4.is) c.store_phase.ensures

@@ -1,12 +1,8 @@
 -- `commit::check_phase` meets its contract. Assumes nothing.
-use borrow.Author.Tests.{le-ltb, lt-ltb}
+use Rattle.std.proofs.Common.{le-ltb, lt-ltb}
 use Rattle.rules.specs.Tables.{with_words}
 use Rattle.rules.specs.Advance.{check_phase}
 use Rattle.commit.proofs.check_phase.Goals as goal
-
-pub check_step-requires : goal.check_step-requires
-check_step-requires c =
-    record { in_use = c.requires.in_use; phase_is = c.requires.phase_is; below = c.if-head.true }
 
 pub returns-then-head : goal.returns-then-head
 unfolding check_phase

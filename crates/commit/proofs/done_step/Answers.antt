@@ -1,5 +1,5 @@
 -- `commit::done_step` meets its contract. Assumes nothing.
-use mathlib.Core.Path.{refl}
+use Rattle.std.proofs.Common.{refl}
 use Rattle.rules.specs.Advance.{done_step}
 use Rattle.seats.specs.Outcomes.{same}
 use Rattle.commit.proofs.done_step.Goals as goal

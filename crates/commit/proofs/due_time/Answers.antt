@@ -1,22 +1,21 @@
 -- `commit::due_time` meets its contract. Assumes nothing.
-use native.Mathlib.Omega.{arith}
+use Rattle.std.proofs.Common.{◌∙◌, max, arith, rules, tests}
+use Rattle.std.proofs.lemmas.Iterator.{YieldsList-from_range, YieldsList-from_map, serves_from_Range}
+use Rattle.std.proofs.lemmas.Iterator.Consumers.{fold_from_yields_List}
 use Rattle.clock.proofs.Laws.{read_time-fits}
-use Rattle.rules.specs.Advance.{due_time}
-use Rattle.seats.specs.Loops.{at_end}
-use Rattle.commit.proofs.Folds.{due_more, due_none}
+use Rattle.commit.proofs.Folds.{due_by, due_is}
 use Rattle.commit.proofs.due_time.Goals as goal
 
 -- a read time is far from the end of 64 bits
-pub overflow_add-read_time : goal.overflow_add-read_time
-overflow_add-read_time c = omega (arith, c.read_time.ensures, read_time-fits c.at-word.result)
-
-pub loop-i-preserved : goal.loop-i-preserved
-loop-i-preserved c =
-    let more = due_more _ _ _ _ c.loop-i.invariant.1 c.at.ensures c.at-word.ensures c.read_time.ensures c.greater-time.ensures in
-    (omega arith, more)
+pub fold-requires-clause-can : goal.fold-requires-clause-can
+fold-requires-clause-can c = (tt, serves_from_Range (λ x q k. search (rules, tests)) (λ x low high. search (rules, read_time-fits)))
 
 pub returns : goal.returns
-returns c = at_end (due_time _ _ _) _ _ c.loop-i.invariant.1 c.loop-i.invariant.0 c.loop-i-test.false
-
-pub loop-i-init : goal.loop-i-init
-loop-i-init c = (omega arith, due_none _ _ _)
+returns c =
+    let n = c.args.n in
+    let due = due_by c.args.words.now c.args.row.now in
+    let numbers = YieldsList-from_range 0 n n c.map.ensures.source (omega arith) in
+    fold_from_yields_List _ max _ _ c.fold.ensures.ran
+    (YieldsList-from_map _ due numbers c.map.ensures.closure (λ x r q k. search (rules, tests)))
+    (λ a x b q k. search (rules, tests))
+    ∙ due_is _ _ _ n

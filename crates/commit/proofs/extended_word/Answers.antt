@@ -1,5 +1,5 @@
 -- `commit::extended_word` meets its contract. Assumes nothing.
-use mathlib.Core.Path.{◌≡◌, ◌∙◌}
+use Rattle.std.proofs.Common.{◌≡◌, ◌∙◌}
 use Rattle.clock.specs.declared.Packed.TheVariants.{Word}
 use Rattle.clock.specs.Word.{extended}
 use Rattle.clock.proofs.Laws.{extended_to_word}

@@ -1,5 +1,5 @@
 -- `commit::fresh_word` meets its contract. Assumes nothing.
-use mathlib.Core.Path.{◌≡◌, ◌∙◌}
+use Rattle.std.proofs.Common.{◌≡◌, ◌∙◌}
 use Rattle.clock.specs.declared.Packed.TheVariants.{Word}
 use Rattle.clock.specs.Word.{fresh}
 use Rattle.clock.proofs.Laws.{fresh_at_word}

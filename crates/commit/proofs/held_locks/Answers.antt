@@ -1,5 +1,5 @@
 -- `commit::held_locks` meets its contract. Assumes nothing.
-use borrow.Author.Tests.{eq-eqb, ne_eqb}
+use Rattle.std.proofs.Common.{eq-eqb, ne_eqb}
 use Rattle.rules.specs.Advance.{held_locks}
 use Rattle.seats.specs.Heads.{head_row}
 use Rattle.commit.proofs.held_locks.Goals as goal

@@ -1,8 +1,5 @@
 -- `commit::judge` meets its contract. Assumes nothing.
-use mathlib.Core.Path.{◌≡◌, ◌∙◌, sym}
-use mathlib.Core.Bool.{cond}
-use borrow.Author.Tests.{eq-eqb, le-ltb, lt-ltb, ne_eqb}
-use lib.Dec.{ltb}
+use Rattle.std.proofs.Common.{◌≡◌, ◌∙◌, sym, cond, eq-eqb, le-ltb, lt-ltb, ne_eqb, ltb}
 use Rattle.rules.specs.Advance.{by_word, word_blocked}
 use Rattle.rules.specs.declared.Verdict.TheVariants.{Passes, Extends, Fails}
 use Rattle.commit.proofs.judge.Goals as goal

@@ -1,5 +1,5 @@
 -- `commit::let_go` meets its contract. Assumes nothing.
-use mathlib.Core.Path.{refl}
+use Rattle.std.proofs.Common.{refl}
 use Rattle.rules.specs.Advance.{let_go}
 use Rattle.seats.specs.Outcomes.{same}
 use Rattle.commit.proofs.Entries.{held_is, held_small}

@@ -1,13 +1,8 @@
 -- `commit::lock_step` meets its contract. Assumes nothing.
-use mathlib.Core.Path.{refl}
-use native.Mathlib.Omega.{arith}
+use Rattle.std.proofs.Common.{refl}
 use Rattle.rules.specs.Advance.{lock_step}
 use Rattle.seats.specs.Outcomes.{entry_at, same}
 use Rattle.commit.proofs.lock_step.Goals as goal
-
-pub abort-requires : goal.abort-requires
-abort-requires c =
-    record { in_use = c.requires.in_use; phase_in = omega (arith, c.requires.phase_in) }
 
 -- the word is locked
 pub returns-then-is_locked : goal.returns-then-is_locked

@@ -1,5 +1,5 @@
 -- `commit::move_to` meets its contract. Assumes nothing.
-use mathlib.Core.Path.{refl}
+use Rattle.std.proofs.Common.{refl}
 use Rattle.rules.specs.Advance.{moved}
 use Rattle.seats.specs.Outcomes.{next}
 use Rattle.commit.proofs.move_to.Goals as goal

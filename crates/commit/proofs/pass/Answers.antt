@@ -1,5 +1,5 @@
 -- `commit::pass` meets its contract. Assumes nothing.
-use mathlib.Core.Path.{refl}
+use Rattle.std.proofs.Common.{refl}
 use Rattle.rules.specs.Advance.{passed_to}
 use Rattle.seats.specs.Outcomes.{same}
 use Rattle.commit.proofs.pass.Goals as goal

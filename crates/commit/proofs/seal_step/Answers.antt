@@ -1,5 +1,5 @@
 -- `commit::seal_step` meets its contract. Assumes nothing.
-use mathlib.Core.Path.{refl}
+use Rattle.std.proofs.Common.{refl}
 use Rattle.rules.specs.Advance.{seal_step}
 use Rattle.seats.specs.Outcomes.{same}
 use Rattle.commit.proofs.seal_step.Goals as goal

@@ -1,15 +1,16 @@
 -- `commit::seen_time` meets its contract. Assumes nothing.
-use native.Mathlib.Omega.{arith}
-use Rattle.rules.specs.Advance.{seen_time}
-use Rattle.seats.specs.Loops.{at_end}
-use Rattle.commit.proofs.Folds.{seen_more, seen_none}
+use Rattle.std.proofs.Common.{◌∙◌, max, arith, rules, tests}
+use Rattle.std.proofs.lemmas.Iterator.{YieldsList-from_range, YieldsList-from_map}
+use Rattle.std.proofs.lemmas.Iterator.Consumers.{fold_from_yields_List}
+use Rattle.rules.specs.Layout.{kept_write}
+use Rattle.commit.proofs.Folds.{seen_is}
 use Rattle.commit.proofs.seen_time.Goals as goal
 
-pub loop-i-init : goal.loop-i-init
-loop-i-init c = (omega arith, seen_none _)
-
-pub loop-i-preserved : goal.loop-i-preserved
-loop-i-preserved c = (omega arith, seen_more _ _ c.loop-i.invariant.1 c.at.ensures c.greater-time.ensures)
-
 pub returns : goal.returns
-returns c = at_end (seen_time _) _ _ c.loop-i.invariant.1 c.loop-i.invariant.0 c.loop-i-test.false
+returns c =
+    let n = c.args.n in
+    let numbers = YieldsList-from_range 0 n n c.map.ensures.source (omega arith) in
+    fold_from_yields_List _ max _ _ c.fold.ensures.ran
+    (YieldsList-from_map _ (kept_write _) numbers c.map.ensures.closure (λ x r q k. search (rules, tests)))
+    (λ a x b q k. search (rules, tests))
+    ∙ seen_is _ n

@@ -1,12 +1,8 @@
 -- `commit::store_phase` meets its contract. Assumes nothing.
-use borrow.Author.Tests.{le-ltb, lt-ltb}
+use Rattle.std.proofs.Common.{le-ltb, lt-ltb}
 use Rattle.rules.specs.Tables.{tables}
 use Rattle.rules.specs.Advance.{store_phase}
 use Rattle.commit.proofs.store_phase.Goals as goal
-
-pub store_step-requires : goal.store_step-requires
-store_step-requires c =
-    record { in_use = c.requires.in_use; phase_is = c.requires.phase_is; below = c.if-head.true }
 
 pub returns-then-head : goal.returns-then-head
 unfolding store_phase

@@ -1,6 +1,5 @@
 -- `commit::store_step` meets its contract. Assumes nothing.
-use mathlib.Core.Path.{refl}
-use native.Mathlib.Omega.{arith}
+use Rattle.std.proofs.Common.{refl, arith}
 use Rattle.rules.specs.Advance.{effect, store_step}
 use Rattle.rows.specs.Fine.{time-top}
 use Rattle.seats.specs.Outcomes.{entry_at, same}

@@ -1,17 +1,11 @@
 -- `commit::time_step` meets its contract. Assumes nothing.
-use mathlib.Core.Path.{◌≡◌, refl}
-use native.Mathlib.Omega.{arith}
-use borrow.Author.Tests.{le-ltb, lt-ltb}
+use Rattle.std.proofs.Common.{◌≡◌, refl, le-ltb, lt-ltb}
 use Rattle.rules.specs.Layout.{row}
 use Rattle.rules.specs.Advance.{commit_time, time_step}
 use Rattle.seats.specs.Outcomes.{next, same}
 use Rattle.commit.proofs.Entries.{commit_is}
 use Rattle.commit.proofs.time_step.Goals as goal
 use Rattle.commit.proofs.time_step.Goals.{After-due_time-time}
-
-pub abort-requires : goal.abort-requires
-abort-requires c =
-    record { in_use = c.requires.in_use; phase_in = omega (arith, c.requires.phase_in) }
 
 -- the time is the rules' commit time
 time_is : (c : After-due_time-time) →

@@ -1,37 +1,23 @@
 -- `plan::claim_sum` meets its contract. Assumes nothing.
-use Prim.Native.Nat.{◌≤◌}
-use mathlib.Core.Path.{◌≡◌}
-use native.Mathlib.Omega.{arith}
-use Rattle.rules.specs.Tests.{sum_to}
-use Rattle.rules.specs.Layout.{seat_count}
-use Rattle.rules.specs.Plan.{claim, claims}
-use Rattle.seats.specs.Loops.{at_end}
-use Rattle.plan.proofs.Plans.{sum_more, sum_none}
-use Rattle.plan.proofs.Census.{claim_is, claim_small}
+use Rattle.std.proofs.Common.{ℕ, max, ◌∙◌, get_or, arith, rules, tests}
+use Rattle.std.proofs.lemmas.Iterator.{YieldsList-from_range, YieldsList-from_map}
+use Rattle.std.proofs.lemmas.Iterator.Consumers.{fits_from_yields_list, sum_from_yields_List}
+use Rattle.rules.specs.Layout.{owners, share}
+use Rattle.plan.proofs.Census.{claims_are, claims_small}
 use Rattle.plan.proofs.claim_sum.Goals as goal
-use Rattle.plan.proofs.claim_sum.Goals.{After-greater-sum}
 
--- what is added is the owner's claim, and small
-claimed : (c : After-greater-sum) →
-    (c.greater-sum.result ≡ claim c.args.seats.now c.loop-o.o) × (claim c.args.seats.now c.loop-o.o ≤ seat_count)
-claimed c =
-    let in_owners = c.loop-o-test.true in
-    let counts = c.requires.counts_are in (
-      claim_is _ counts _ in_owners c.at.ensures c.at-in-loop-o.ensures c.greater-sum.ensures,
-      claim_small _ counts _ c.requires.plan_good in_owners,
-    )
-
-pub loop-o-preserved : goal.loop-o-preserved
-loop-o-preserved c =
-    let one = claimed (goal.at.loop-o-preserved c).After-greater-sum in
-    (omega arith, sum_more _ _ c.loop-o.invariant.1 one.0, omega arith)
+pub sum-requires-clause-fits : goal.sum-requires-clause-fits
+sum-requires-clause-fits c =
+    let taken = λ (o : ℕ). max (get_or c.args.held.now o 0) (share c.args.seats.now o) in
+    let numbers = YieldsList-from_range 0 owners owners c.map.ensures.source (omega arith) in
+    fits_from_yields_list c.map.result _
+    (YieldsList-from_map _ taken numbers c.map.ensures.closure (λ x r q k. search (rules, tests)))
+    (omega (arith, claims_are c.requires, claims_small c.requires))
 
 pub returns : goal.returns
-unfolding claims
-returns c = at_end (sum_to (claim _)) _ _ c.loop-o.invariant.1 c.loop-o.invariant.0 c.loop-o-test.false
-
-pub loop-o-init : goal.loop-o-init
-loop-o-init c = (omega arith, sum_none _, omega arith)
-
-pub overflow_add-sum : goal.overflow_add-sum
-overflow_add-sum c = let one = claimed (goal.at.overflow_add-sum c).After-greater-sum in omega arith
+returns c =
+    let taken = λ (o : ℕ). max (get_or c.args.held.now o 0) (share c.args.seats.now o) in
+    let numbers = YieldsList-from_range 0 owners owners c.map.ensures.source (omega arith) in
+    sum_from_yields_List c.map.result _ c.sum.ensures.ran
+    (YieldsList-from_map _ taken numbers c.map.ensures.closure (λ x r q k. search (rules, tests)))
+    ∙ claims_are c.requires

@@ -1,5 +1,5 @@
 -- `plan::count` meets its contract. Assumes nothing.
-use mathlib.Core.Path.{◌∙◌}
+use Rattle.std.proofs.Common.{◌∙◌}
 use Rattle.plan.proofs.Census.{counts_free, counts_taken}
 use Rattle.plan.proofs.count.Goals as goal
 

@@ -1,5 +1,5 @@
 -- `plan::is_bad_row` meets its contract. Assumes nothing.
-use borrow.Author.Tests.{eq-eqb, le-ltb, lt-ltb, ne_eqb}
+use Rattle.std.proofs.Common.{eq-eqb, le-ltb, lt-ltb, ne_eqb}
 use Rattle.rules.specs.Tests.{one_of}
 use Rattle.rules.specs.Plan.{bad_row}
 use Rattle.plan.proofs.is_bad_row.Goals as goal

@@ -1,5 +1,5 @@
 -- `plan::open_row` meets its contract. Assumes nothing.
-use mathlib.Core.Path.{refl}
+use Rattle.std.proofs.Common.{refl}
 use Rattle.rules.specs.Plan.{opened}
 use Rattle.seats.specs.Outcomes.{next}
 use Rattle.plan.proofs.open_row.Goals as goal

@@ -1,30 +1,18 @@
 -- `plan::some_over` meets its contract. Assumes nothing.
-use mathlib.Core.Path.{◌≡◌, ◌∙◌, sym}
-use borrow.Author.Tests.{le-ltb, lt-ltb}
-use lib.Dec.{ltb}
+use Rattle.std.proofs.Common.{◌<◌, ◌≤◌, ◌≡◌, true, false, refl, get_or, arith, rules, tests}
+use Rattle.std.proofs.lemmas.Iterator.{YieldsList-from_range, cases_from_any}
+use Rattle.rules.specs.Layout.{owners, limit}
 use Rattle.rules.specs.Plan.{over_limit}
-use Rattle.rows.specs.Search.{none_passes, passed_more, passed_none, some_passes}
-use Rattle.plan.proofs.Census.{held_is}
+use Rattle.plan.proofs.Plans.{any_is}
+use Rattle.plan.proofs.Census.{over_is, within_is}
 use Rattle.plan.proofs.some_over.Goals as goal
-use Rattle.plan.proofs.some_over.Goals.{After-at-in-loop-o}
-
--- the test is the rules' test of the owner that the loop is at
-test_is : (c : After-at-in-loop-o) →
-    over_limit c.args.seats.now c.loop-o.o ≡ ltb c.at.result c.at-in-loop-o.result
-unfolding over_limit
-test_is c =
-    simp (← held_is _ c.requires _ c.loop-o-test.true, ← c.at.ensures, ← c.at-in-loop-o.ensures)
-
-pub returns-then-at : goal.returns-then-at
-returns-then-at c =
-    sym (some_passes _ _ _ c.loop-o.invariant c.loop-o-test.true (test_is (goal.at.returns-then-at c).After-at-in-loop-o ∙ lt-ltb _ _ c.if-at.true))
-
-pub loop-o-preserved : goal.loop-o-preserved
-loop-o-preserved c =
-    passed_more _ _ _ c.loop-o.invariant c.loop-o-test.true (test_is (goal.at.loop-o-preserved c).After-at-in-loop-o ∙ le-ltb _ _ c.if-at.false)
-
-pub loop-o-init : goal.loop-o-init
-loop-o-init c = passed_none _ _
 
 pub returns : goal.returns
-returns c = sym (none_passes _ _ _ c.loop-o.invariant c.loop-o-test.false)
+returns c =
+    let seats = c.args.seats.now in
+    let held = c.args.held.now in
+    any_is (over_limit seats) owners _
+    (cases_from_any _ _ _ (λ o. o < owners → over_limit seats o ≡ true) (λ o. o < owners → over_limit seats o ≡ false) c.any.ensures.ran
+    (YieldsList-from_range 0 owners owners refl (omega arith))
+    (λ o q k. let over : limit seats o < get_or held o 0 = search (rules, tests) in λ l. over_is seats c.requires o l over)
+    (λ o q k. let within : get_or held o 0 ≤ limit seats o = search (rules, tests) in (search rules, λ l. within_is seats c.requires o l within)))

@@ -1,13 +1,11 @@
 -- `plan::take_census` meets its contract. Assumes nothing.
-use mathlib.Core.Path.{◌≡◌, ◌∙◌, refl, sym}
-use mathlib.Core.Logic.{inl}
-use native.Mathlib.Omega.{arith}
+use Rattle.std.proofs.Common.{◌≡◌, ◌∙◌, sym, arith}
 use Rattle.rules.specs.Layout.{phase_at, owner_at}
 use Rattle.rules.specs.Places.{cell_at}
 use Rattle.rules.specs.Plan.{bad_row}
-use Rattle.rows.specs.Search.{passed_more, passed_none, some_passes}
+use Rattle.rows.specs.Search.{passed_more, some_passes}
 use Rattle.plan.specs.Census.{RowOf}
-use Rattle.plan.proofs.Census.{census_bad, census_sound, held_small}
+use Rattle.plan.proofs.Census.{census_sound, held_small}
 use Rattle.plan.proofs.take_census.Goals as goal
 use Rattle.plan.proofs.take_census.Goals.{After-at-owner, After-is_bad_row}
 
@@ -26,16 +24,11 @@ test_is : (c : After-is_bad_row) → RowOf c.args.seats.now c.loop-i.i c.at-phas
     bad_row c.args.seats.now c.loop-i.i ≡ c.is_bad_row.result
 test_is c row = sym (c.is_bad_row.ensures _ _ row)
 
-pub shape_of-held-then-is_bad_row : goal.shape_of-held-then-is_bad_row
-shape_of-held-then-is_bad_row c =
-    c.loop-i.invariant.1.wide ∙ sym c.requires.none.wide
-
 pub returns-then-is_bad_row : goal.returns-then-is_bad_row
 returns-then-is_bad_row c =
-    let after_at_owner = (goal.at.returns-then-is_bad_row c).After-at-owner in
-    let after_is_bad_row = (goal.at.returns-then-is_bad_row c).After-is_bad_row in
-    let so_far = c.loop-i.invariant in
-    census_bad _ _ _ (some_passes _ _ _ so_far.0 c.loop-i-test.true (test_is after_is_bad_row (row_is after_at_owner) ∙ c.if-is_bad_row.true))
+    let row = row_is (goal.at.returns-then-is_bad_row c).After-at-owner in
+    let test = test_is (goal.at.returns-then-is_bad_row c).After-is_bad_row row in
+    some_passes _ _ _ c.loop-i.invariant.0 c.loop-i-test.true (test ∙ c.if-is_bad_row.true)
 
 pub count-requires : goal.count-requires
 count-requires c =
@@ -50,14 +43,7 @@ loop-i-preserved c =
       c.lowest-free.ensures _ row.phase_is so_far.2,
     )
 
-pub shape_of-held : goal.shape_of-held
-shape_of-held c =
-    c.loop-i.invariant.1.wide ∙ sym c.requires.none.wide
-
 pub returns : goal.returns
 returns c =
     let all = c.loop-i.invariant in
-    census_sound _ _ _ _ all.0 all.1 all.2 c.loop-i-test.false
-
-pub loop-i-init : goal.loop-i-init
-loop-i-init c = (passed_none _ _, c.requires.none, inl (refl, passed_none _ _))
+    rw c.unwrap_or.ensures (census_sound _ _ _ _ all.0 all.1 all.2 (omega arith))

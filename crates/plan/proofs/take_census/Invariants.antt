@@ -1,4 +1,3 @@
-use Prim.Native.Nat.{◌-◌}
 use Rattle.rules.specs.Layout.{seat_count}
 use Rattle.rules.specs.Plan.{bad_row}
 use Rattle.rows.specs.Search.{Passed}
@@ -7,6 +6,3 @@ use Rattle.plan.proofs.take_census.Given as goal
 
 abbrev pub invariant-loop-i : goal.invariant-loop-i
 invariant-loop-i l = Passed (bad_row l.seats) seat_count l.i × Counts l.seats l.held l.i × Lowest l.seats l.i l.free
-
-abbrev pub decreases-loop-i : goal.decreases-loop-i
-decreases-loop-i l = seat_count - l.i

@@ -1,5 +1,5 @@
 -- `work::note_read` meets its contract. Assumes nothing.
-use mathlib.Core.Path.{refl}
+use Rattle.std.proofs.Common.{refl}
 use Rattle.rules.specs.Work.{read_noted}
 use Rattle.seats.specs.Outcomes.{next}
 use Rattle.work.proofs.note_read.Goals as goal

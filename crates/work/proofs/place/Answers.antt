@@ -1,5 +1,5 @@
 -- `work::place` meets its contract. Assumes nothing.
-use mathlib.Core.Path.{refl}
+use Rattle.std.proofs.Common.{refl}
 use Rattle.rules.specs.Work.{placed}
 use Rattle.seats.specs.Outcomes.{next}
 use Rattle.work.proofs.place.Goals as goal

@@ -1,22 +1,18 @@
 -- `work::place_of` meets its contract. Assumes nothing.
-use mathlib.Core.Path.{sym}
-use borrow.Author.Tests.{le-ltb, lt-ltb}
+use Rattle.std.proofs.Common.{◌<◌, ◌≤◌, ◌≡◌, ◌∙◌, true, false, sym, le-ltb, lt-ltb, rules, tests}
+use Rattle.std.proofs.lemmas.Iterator.{first_from_Range}
+use Rattle.rules.specs.Layout.{write_item}
 use Rattle.rules.specs.Work.{above}
-use Rattle.rows.specs.Search.{found_first, found_none, passed_more, passed_none}
+use Rattle.work.proofs.Places.{found_is}
 use Rattle.work.proofs.place_of.Goals as goal
 
-pub returns-then-item-at : goal.returns-then-item-at
-unfolding above
-returns-then-item-at c =
-    sym (found_first _ _ _ c.loop-i.invariant c.loop-i-test.true (simp (← c.at.ensures, lt-ltb _ _ c.if-item-at.true)))
-
-pub loop-i-preserved : goal.loop-i-preserved
-unfolding above
-loop-i-preserved c =
-    passed_more _ _ _ c.loop-i.invariant c.loop-i-test.true (simp (← c.at.ensures, le-ltb _ _ c.if-item-at.false))
-
-pub loop-i-init : goal.loop-i-init
-loop-i-init c = passed_none _ _
-
 pub returns : goal.returns
-returns c = sym (found_none _ _ _ c.loop-i.invariant c.loop-i-test.false)
+unfolding above
+returns c =
+    let row = c.args.row.now in
+    let item = c.args.item in
+    c.unwrap_or.ensures
+    ∙ sym (found_is (above row item) c.args.n _
+    (first_from_Range _ _ _ _ (λ i. above row item i ≡ true) (λ i. above row item i ≡ false) c.find.ensures.ran
+    (λ i q k. let over : item < write_item row i = search (rules, tests) in lt-ltb _ _ over)
+    (λ i q k. let within : write_item row i ≤ item = search (rules, tests) in (search rules, le-ltb _ _ within))))

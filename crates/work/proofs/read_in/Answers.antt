@@ -1,7 +1,5 @@
 -- `work::read_in` meets its contract. Assumes nothing.
-use mathlib.Core.Path.{◌≡◌}
-use native.Mathlib.Omega.{arith}
-use borrow.Author.Tests.{le-ltb, lt-ltb}
+use Rattle.std.proofs.Common.{◌≡◌, arith, le-ltb, lt-ltb}
 use Rattle.rules.specs.Layout.{row}
 use Rattle.rules.specs.Work.{read_in, read_of, write_of}
 use Rattle.seats.specs.Outcomes.{entry_at, read_of_lem, write_of_lem}

@@ -1,22 +1,14 @@
 -- `work::slide` meets its contract. Assumes nothing.
-use mathlib.Core.Path.{◌∙◌, refl, sym}
-use native.Mathlib.Omega.{arith}
+use Rattle.std.proofs.Common.{sym, arith}
 use Rattle.seats.specs.Outcomes.{entry_at}
-use Rattle.work.proofs.Slides.{slid_end, slid_more, slid-none}
+use Rattle.work.proofs.Slides.{slid_more, slid-none}
 use Rattle.work.proofs.slide.Goals as goal
+
+pub loop-p-init : goal.loop-p-init
+loop-p-init c = (omega arith, slid-none _ _ _ _ (omega arith) c.requires.room)
 
 pub loop-p-preserved : goal.loop-p-preserved
 loop-p-preserved c =
     let so_far = c.loop-p.invariant in
     let number = sym (entry_at c.row_of.ensures _ c.at-v.ensures) in
-    let more = slid_more _ _ _ _ (omega arith) c.requires.room _ (omega arith) so_far.1 so_far.3 number c.give.ensures in
-    (omega arith, omega arith, c.give.auto.seats ∙ so_far.2, more)
-
-pub loop-p-init : goal.loop-p-init
-loop-p-init c = (omega arith, omega arith, refl, slid-none _ _ _ _ (omega arith) c.requires.room)
-
-pub shape_of-seats : goal.shape_of-seats
-shape_of-seats c = c.loop-p.invariant.2
-
-pub returns : goal.returns
-returns c = slid_end _ _ _ _ _ _ c.loop-p-test.false c.loop-p.invariant.0 c.loop-p.invariant.3
+    (omega arith, slid_more _ _ _ _ (omega arith) c.requires.room _ (omega arith) (omega arith) so_far.1 number c.give.ensures)

@@ -1,7 +1,6 @@
 -- `work::write_in` meets its contract. Assumes nothing.
-use mathlib.Core.Path.{◌≡◌, refl}
-use native.Mathlib.Omega.{arith}
-use borrow.Author.Tests.{le-leb, le-ltb, lt-leb, lt-ltb}
+use Rattle.std.proofs.Common.{◌≡◌, refl, arith, le-leb, le-ltb, lt-ltb}
+use borrow.Author.Tests.{lt-leb}
 use Rattle.rules.specs.Layout.{row}
 use Rattle.rules.specs.Work.{write_in, write_of}
 use Rattle.rows.specs.Search.{first_le}
