@@ -1,6 +1,8 @@
--- The document's number of every refusal and of every abort.
-use Rattle.std.specs.Prelude.{ℕ, ◌≡◌, refl, cond, eqb}
+-- The document's number of every refusal and of every abort, and what a caller is told.
+use Rattle.std.specs.Prelude.{ℕ, ◌≡◌, refl, cond, eqb, Result, Ok, Err}
 use Rattle.std.proofs.Common.{sym, ap, ◌∙◌}
+use Rattle.rules.specs.declared.Answer.{Answer}
+use Rattle.rules.specs.declared.Answer.TheVariants.{Refused}
 use Rattle.rules.specs.declared.Refusal.{Refusal}
 use Rattle.rules.specs.declared.Refusal.TheVariants.{WrongSizes, OutOfRange, Damaged, NotHeld, TooLate, AtLimit, Crowded}
 use Rattle.rules.specs.declared.Refusal.TheVariants.{ReadsFull, WritesFull, ItemLocked, BadPlan, SetupAgain}
@@ -26,6 +28,11 @@ abort_number WordLocked = 21
 abort_number VersionGone = 22
 abort_number WordBlocked = 23
 abort_number TimeRunOut = 24
+
+-- what a caller is told by a call that may be refused
+abbrev pub told : Result Answer Refusal → Answer
+told (Ok a) = a
+told (Err why) = Refused (refusal_number why)
 
 -- the refusal of a number; any that has none is taken for the last
 abbrev pub numbered_as : ℕ → Refusal
