@@ -1,6 +1,6 @@
 -- `work::first_read` meets its contract. Assumes nothing.
 use Rattle.std.proofs.Common.{refl, le-leb}
-use borrow.Author.Tests.{lt-leb}
+use Rattle.std.proofs.lemmas.Bool.{lt-leb}
 use Rattle.rules.specs.Work.{first_read}
 use Rattle.seats.specs.Outcomes.{same}
 use Rattle.work.proofs.first_read.Goals as goal

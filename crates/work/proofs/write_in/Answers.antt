@@ -1,6 +1,6 @@
 -- `work::write_in` meets its contract. Assumes nothing.
 use Rattle.std.proofs.Common.{◌≡◌, refl, arith, le-leb, le-ltb, lt-ltb}
-use borrow.Author.Tests.{lt-leb}
+use Rattle.std.proofs.lemmas.Bool.{lt-leb}
 use Rattle.rules.specs.Layout.{row}
 use Rattle.rules.specs.Work.{write_in, write_of}
 use Rattle.rows.specs.Search.{first_le}
