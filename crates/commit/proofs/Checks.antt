@@ -1,6 +1,6 @@
 -- The check of a read entry: the verdict, and what it comes to.
 use Rattle.std.proofs.Common.{ℕ, ◌≤◌, ◌<◌, ◌≡◌, refl, sym, Bool, true, false, cond, not, List, arith, eqb-true, le-leb, eqb, ltb, get_or, set}
-use borrow.Author.Tests.{lt-leb}
+use Rattle.std.proofs.lemmas.Bool.{lt-leb}
 use Rattle.clock.specs.Word.{top, write_time, extended}
 use Rattle.rules.specs.Layout.{row, read_item, kept_write, kept_read}
 use Rattle.rules.specs.Tables.{Tables, with_words}

@@ -4,9 +4,10 @@ use Rattle.std.proofs.Common.{Option, Some, None, unwrap_or, arith, add-one, lt-
 use Rattle.std.proofs.Common.{replicate, length-set, get_or-set_same, get_or-set_other}
 use Rattle.std.specs.Option.{option_or}
 use Rattle.std.specs.List.{range_with_len}
-use native.Mathlib.Decide.{dec_lt}
-use borrow.Author.Tests.{eqb-false, lt-leb}
-use lib.ListN.{length-replicate, get_or-replicate, get_or-eq_default}
+use Rattle.std.proofs.Math.Decide.{dec_lt}
+use Rattle.std.proofs.lemmas.Bool.{eqb-false, lt-leb}
+use Rattle.std.proofs.lemmas.List.{length-replicate, get_or-replicate}
+use Rattle.std.proofs.Math.ListN.{get_or-eq_default}
 use Rattle.rules.specs.Tests.{any, count, one_of}
 use Rattle.rules.specs.Layout.{owners, seat_count, free, share, limit}
 use Rattle.rules.specs.Tables.{Tables}

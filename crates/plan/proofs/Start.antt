@@ -1,6 +1,6 @@
 -- Setup's start: the clock's answer to it says whether it is above T.
 use Rattle.std.proofs.Common.{ℕ, ◌<◌, ◌≡◌, sym, ap, ◌∙◌, true, false, arith, lt-ltb, le-ltb, ltb}
-use native.Mathlib.Decide.{dec_lt}
+use Rattle.std.proofs.Math.Decide.{dec_lt}
 use denote.Enum.Declared.{tag_of}
 use Rattle.clock.specs.declared.Packed.{Packed}
 use Rattle.clock.specs.declared.Packed.TheVariants.{Word}

@@ -1,6 +1,6 @@
 -- `commit::advance_in` meets its contract. Assumes nothing.
 use Rattle.std.proofs.Common.{ℕ, ◌<◌, ◌≡◌, ◌∙◌, refl, sym, Bool, true, false, cond, eqb, eq-eqb, arith}
-use borrow.Author.Tests.{eqb-false}
+use Rattle.std.proofs.lemmas.Bool.{eqb-false}
 use Rattle.rules.specs.Layout.{working, locking, checking, row, phase}
 use Rattle.rules.specs.Tables.{Tables, tables}
 use Rattle.rules.specs.Advance.{advance_in, lock_phase}

@@ -1,6 +1,6 @@
 -- `plan::is_crowded` meets its contract. Assumes nothing.
 use Rattle.std.proofs.Common.{le-leb}
-use borrow.Author.Tests.{lt-leb}
+use Rattle.std.proofs.lemmas.Bool.{lt-leb}
 use Rattle.rules.specs.Plan.{crowded}
 use Rattle.plan.proofs.is_crowded.Goals as goal
 

@@ -1,6 +1,6 @@
 -- `plan::owner_refusal` meets its contract. Assumes nothing.
 use Rattle.std.proofs.Common.{le-leb}
-use borrow.Author.Tests.{lt-leb}
+use Rattle.std.proofs.lemmas.Bool.{lt-leb}
 use Rattle.rules.specs.Plan.{owner_refusal}
 use Rattle.plan.proofs.owner_refusal.Goals as goal
 
