@@ -1,8 +1,10 @@
 -- One pass over the rows counts the seats that each owner holds, and finds a bad row or the lowest free seat. The tests of Open rest on it.
-use Rattle.std.specs.Prelude.{ℕ, ◌<◌, ◌≡◌, true, false, List, length, get_or, Option, Some, None}
+use Rattle.std.specs.Prelude.{ℕ, ◌<◌, ◌≡◌, true, false, List, length, get_or, Option, Some, None, Result, Ok, Err}
 use Rattle.rules.specs.Tests.{any, count}
 use Rattle.rules.specs.Layout.{owners, seat_count, seats_length, row, phase, owner, share, limit}
 use Rattle.rules.specs.Plan.{bad_plan, bad_row, holds, held, claims, is_free, free_seat}
+use Rattle.rules.specs.declared.Refusal.{Refusal}
+use Rattle.rules.specs.declared.Refusal.TheVariants.{Damaged}
 use Rattle.rows.specs.Search.{Passed}
 
 -- the two numbers of a row that the pass looks at
@@ -33,9 +35,9 @@ pub record Sound (seats counts : List ℕ) (free : ℕ) : Type 0 where
   pub free_is : free ≡ free_seat seats
 
 -- or a row is bad
-abbrev pub Census : List ℕ → List ℕ → Option ℕ → Type 0
-Census seats counts None = any (bad_row seats) seat_count ≡ true
-Census seats counts (Some free) = Sound seats counts free
+abbrev pub Census : List ℕ → List ℕ → Result ℕ Refusal → Type 0
+Census seats counts (Err why) = (why ≡ Damaged) × (any (bad_row seats) seat_count ≡ true)
+Census seats counts (Ok free) = Sound seats counts free
 
 -- U can be summed up: all seats are counted, and no share is above 64
 pub record Planned (seats counts : List ℕ) : Type 0 where

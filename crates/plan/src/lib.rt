@@ -4,15 +4,15 @@
 ghost use Rattle.std.specs.Prelude.{◌≡◌, List, ℕ, ◌+◌, ◌<◌, ◌≤◌, get_or};
 ghost use Rattle.rules.specs.Tests.{any};
 ghost use Rattle.rules.specs.Layout.{owners, seat_count, plan_width, row, phase as phase_of, share as share_of};
+ghost use Rattle.rules.specs.Numbers.{told, refused_for};
 ghost use Rattle.rules.specs.Lent.{lent, left};
 ghost use Rattle.rules.specs.Plan.{bad_plan, laid, held as held_by, bad_row, over_limit, claims as claims_of, crowded, owner_refusal, plan_refusal, opened};
 ghost use Rattle.plan.specs.Census.{RowOf, Counts, Lowest, Uncounted, Census, Planned, OwnerOf, ForOwner};
 ghost use Rattle.plan.specs.Promises.{SetupAnswered, OpenAnswered};
 
-use clock::Packed;
-use rules::Answer;
+use rules::{Answer, Refusal};
 use seats::layout::*;
-use seats::{at, fill, free_row, give, is_unsized, store};
+use seats::{at, free_row, give, is_unsized, store};
 
 // A plan that Setup would refuse. `plan` is Setup's own, or a seat table, which begins with one.
 fn is_bad_plan(plan: &[u64]) -> bool
@@ -39,6 +39,29 @@ fn lay(seats: &mut [u64], plan: &[u64])
     }
 }
 
+fn try_setup(
+    values: &[u64],
+    words: &mut [u64],
+    seats: &mut [u64],
+    start: u64,
+    plan: &[u64; PLAN_WIDTH as usize],
+) -> Result<Answer, Refusal>
+    ensures { SetupAnswered (lent values.now words.old seats.old) start plan.now (left (told result) values.now words.new seats.new) }
+{
+    let records = words.len() as u64;
+    if is_unsized(values.len() as u64, records, seats.len() as u64) {
+        return Err(Refusal::WrongSizes);
+    }
+    let word = clock::fresh(start)?;
+    if is_bad_plan(plan) {
+        return Err(Refusal::BadPlan);
+    }
+    words.fill(word);
+    seats.fill(0);
+    lay(seats, plan);
+    Ok(Answer::Ready(records))
+}
+
 // Every word fresh at `start`, the plan stored, every row free. Values stay.
 pub fn setup(
     values: &[u64],
@@ -49,20 +72,7 @@ pub fn setup(
 ) -> Answer
     ensures { SetupAnswered (lent values.now words.old seats.old) start plan.now (left result values.now words.new seats.new) }
 {
-    let records = words.len() as u64;
-    if is_unsized(values.len() as u64, records, seats.len() as u64) {
-        return Answer::Refused(1);
-    }
-    let Packed::Word(word) = clock::fresh(start) else {
-        return Answer::Refused(2);
-    };
-    if is_bad_plan(plan) {
-        return Answer::Refused(11);
-    }
-    fill(words, word);
-    fill(seats, 0);
-    lay(seats, plan);
-    Answer::Ready(records)
+    try_setup(values, words, seats, start, plan).unwrap_or_else(Answer::from)
 }
 
 // OPEN
@@ -98,8 +108,8 @@ fn lowest(free: Option<u64>, seat: u64, phase: u64) -> Option<u64>
     free.or(Some(seat))
 }
 
-// The lowest free seat, beside the seats that each owner holds; none where a row is one that Open refuses.
-fn take_census(seats: &[u64], held: &mut [u64]) -> Option<u64>
+// The lowest free seat, beside the seats that each owner holds; refusal 3 where a row is one that Open refuses.
+fn take_census(seats: &[u64], held: &mut [u64]) -> Result<u64, Refusal>
     requires { Uncounted seats.now held.old }
     ensures { Census seats.now held.new result }
 {
@@ -108,12 +118,12 @@ fn take_census(seats: &[u64], held: &mut [u64]) -> Option<u64>
         let phase = at(seats, PLAN_WIDTH + ROW_WIDTH * i + PHASE);
         let owner = at(seats, PLAN_WIDTH + ROW_WIDTH * i + OWNER);
         if is_bad_row(phase, owner) {
-            return None;
+            return Err(Refusal::Damaged);
         }
         count(held, phase, owner);
         free = lowest(free, i, phase);
     }
-    Some(free.unwrap_or(SEATS))
+    Ok(free.unwrap_or(SEATS))
 }
 
 fn some_over(seats: &[u64], held: &[u64]) -> bool
@@ -138,33 +148,33 @@ fn is_crowded(share: u64, mine: u64, claims: u64) -> bool
 }
 
 // Refusals 6 and 7, from an owner's share and limit, what it holds, and U.
-fn owner_refusal(share: u64, limit: u64, mine: u64, claims: u64) -> u64
-    ensures { (seats : List ℕ) (o : ℕ) → OwnerOf seats o share limit mine claims → result ≡ owner_refusal seats o }
+fn check_owner(share: u64, limit: u64, mine: u64, claims: u64) -> Result<(), Refusal>
+    ensures { (seats : List ℕ) (o : ℕ) → OwnerOf seats o share limit mine claims → refused_for result ≡ owner_refusal seats o }
 {
     if limit <= mine {
-        return 6;
+        return Err(Refusal::AtLimit);
     }
     if is_crowded(share, mine, claims) {
-        return 7;
+        return Err(Refusal::Crowded);
     }
-    0
+    Ok(())
 }
 
 // Refusals 3, 6 and 7, from the rows as they were counted.
-fn plan_refusal(seats: &[u64], held: &[u64], owner: u64) -> u64
+fn check_plan(seats: &[u64], held: &[u64], owner: u64) -> Result<(), Refusal>
     requires { ForOwner seats.now held.now owner }
-    ensures { result ≡ plan_refusal seats.now owner }
+    ensures { refused_for result ≡ plan_refusal seats.now owner }
 {
     if is_bad_plan(seats) || some_over(seats, held) {
-        return 3;
+        return Err(Refusal::Damaged);
     }
     let claims = claim_sum(seats, held);
     if SEATS < claims {
-        return 3;
+        return Err(Refusal::Damaged);
     }
     let share = at(seats, owner);
     let limit = at(seats, LIMITS_FROM + owner);
-    owner_refusal(share, limit, at(held, owner), claims)
+    check_owner(share, limit, at(held, owner), claims)
 }
 
 fn open_row(seats: &mut [u64], seat: u64, owner: u64)
@@ -175,24 +185,25 @@ fn open_row(seats: &mut [u64], seat: u64, owner: u64)
     give(seats, seat, OWNER, owner);
 }
 
+fn try_open(values: &[u64], words: &[u64], seats: &mut [u64], owner: u64) -> Result<Answer, Refusal>
+    ensures { OpenAnswered (lent values.now words.now seats.old) owner (left (told result) values.now words.now seats.new) }
+{
+    if is_unsized(values.len() as u64, words.len() as u64, seats.len() as u64) {
+        return Err(Refusal::WrongSizes);
+    }
+    if OWNERS <= owner {
+        return Err(Refusal::OutOfRange);
+    }
+    let mut held = [0u64; OWNERS as usize];
+    let free = take_census(seats, &mut held)?;
+    check_plan(seats, &held, owner)?;
+    open_row(seats, free, owner);
+    Ok(Answer::Seat(free))
+}
+
 // The lowest free seat, where the plan allows the owner one.
 pub fn open(values: &[u64], words: &[u64], seats: &mut [u64], owner: u64) -> Answer
     ensures { OpenAnswered (lent values.now words.now seats.old) owner (left result values.now words.now seats.new) }
 {
-    if is_unsized(values.len() as u64, words.len() as u64, seats.len() as u64) {
-        return Answer::Refused(1);
-    }
-    if OWNERS <= owner {
-        return Answer::Refused(2);
-    }
-    let mut held = [0u64; OWNERS as usize];
-    let Some(free) = take_census(seats, &mut held) else {
-        return Answer::Refused(3);
-    };
-    let why = plan_refusal(seats, &held, owner);
-    if why != 0 {
-        return Answer::Refused(why);
-    }
-    open_row(seats, free, owner);
-    Answer::Seat(free)
+    try_open(values, words, seats, owner).unwrap_or_else(Answer::from)
 }

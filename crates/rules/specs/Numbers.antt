@@ -1,5 +1,5 @@
 -- The document's number of every refusal and of every abort, and what a caller is told.
-use Rattle.std.specs.Prelude.{ℕ, ◌≡◌, refl, cond, eqb, Result, Ok, Err}
+use Rattle.std.specs.Prelude.{ℕ, ◌≡◌, refl, false, cond, eqb, Result, Ok, Err}
 use Rattle.std.proofs.Common.{sym, ap, ◌∙◌}
 use Rattle.rules.specs.declared.Answer.{Answer}
 use Rattle.rules.specs.declared.Answer.TheVariants.{Refused}
@@ -34,6 +34,11 @@ abbrev pub told : Result Answer Refusal → Answer
 told (Ok a) = a
 told (Err why) = Refused (refusal_number why)
 
+-- what a test refuses for; 0 where it passes
+abbrev pub refused_for : {A : Type 0} → Result A Refusal → ℕ
+refused_for (Ok a) = 0
+refused_for (Err why) = refusal_number why
+
 -- the refusal of a number; any that has none is taken for the last
 abbrev pub numbered_as : ℕ → Refusal
 numbered_as n =
@@ -62,6 +67,21 @@ reads_back WritesFull = refl
 reads_back ItemLocked = refl
 reads_back BadPlan = refl
 reads_back SetupAgain = refl
+
+-- 0 is no refusal's number
+pub not_zero : (why : Refusal) → eqb (refusal_number why) 0 ≡ false
+not_zero WrongSizes = refl
+not_zero OutOfRange = refl
+not_zero Damaged = refl
+not_zero NotHeld = refl
+not_zero TooLate = refl
+not_zero AtLimit = refl
+not_zero Crowded = refl
+not_zero ReadsFull = refl
+not_zero WritesFull = refl
+not_zero ItemLocked = refl
+not_zero BadPlan = refl
+not_zero SetupAgain = refl
 
 -- no two refusals have one number
 pub one_number : (why also : Refusal) → refusal_number why ≡ refusal_number also → why ≡ also

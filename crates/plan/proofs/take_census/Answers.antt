@@ -1,5 +1,5 @@
 -- `plan::take_census` meets its contract. Assumes nothing.
-use Rattle.std.proofs.Common.{◌≡◌, ◌∙◌, sym, arith}
+use Rattle.std.proofs.Common.{◌≡◌, refl, ◌∙◌, sym, arith}
 use Rattle.rules.specs.Layout.{phase_at, owner_at}
 use Rattle.rules.specs.Places.{cell_at}
 use Rattle.rules.specs.Plan.{bad_row}
@@ -28,7 +28,7 @@ pub returns-then-is_bad_row : goal.returns-then-is_bad_row
 returns-then-is_bad_row c =
     let row = row_is (goal.at.returns-then-is_bad_row c).After-at-owner in
     let test = test_is (goal.at.returns-then-is_bad_row c).After-is_bad_row row in
-    some_passes _ _ _ c.loop-i.invariant.0 c.loop-i-test.true (test ∙ c.if-is_bad_row.true)
+    (refl, some_passes _ _ _ c.loop-i.invariant.0 c.loop-i-test.true (test ∙ c.if-is_bad_row.true))
 
 pub count-requires : goal.count-requires
 count-requires c =

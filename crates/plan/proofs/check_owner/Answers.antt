@@ -1,8 +1,8 @@
--- `plan::owner_refusal` meets its contract. Assumes nothing.
+-- `plan::check_owner` meets its contract. Assumes nothing.
 use Rattle.std.proofs.Common.{le-leb}
 use Rattle.std.proofs.lemmas.Bool.{lt-leb}
 use Rattle.rules.specs.Plan.{owner_refusal}
-use Rattle.plan.proofs.owner_refusal.Goals as goal
+use Rattle.plan.proofs.check_owner.Goals as goal
 
 pub returns-then-limit-mine : goal.returns-then-limit-mine
 unfolding owner_refusal

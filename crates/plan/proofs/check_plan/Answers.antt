@@ -1,11 +1,11 @@
--- `plan::plan_refusal` meets its contract. Assumes nothing.
+-- `plan::check_plan` meets its contract. Assumes nothing.
 use Rattle.std.proofs.Common.{◌≡◌, ◌∙◌, sym, List, [], ◌∷◌, ℕ, false, ltb, le-ltb, lt-ltb}
 use Rattle.rules.specs.Tests.{any, one_of}
 use Rattle.rules.specs.Layout.{owners, seat_count}
 use Rattle.rules.specs.Plan.{bad_plan, bad_row, over_limit, claims, unsound, plan_refusal}
 use Rattle.plan.proofs.Census.{held_is}
-use Rattle.plan.proofs.plan_refusal.Goals as goal
-use Rattle.plan.proofs.plan_refusal.Goals.{After-claim_sum-claims, then-is_bad_plan-via-then-is_bad_plan, then-is_bad_plan-via-else-is_bad_plan+then-some_over}
+use Rattle.plan.proofs.check_plan.Goals as goal
+use Rattle.plan.proofs.check_plan.Goals.{After-claim_sum-claims, then-is_bad_plan-via-then-is_bad_plan, then-is_bad_plan-via-else-is_bad_plan+then-some_over}
 
 -- A GOOD PLAN, and no bad row: the limits and U are left
 by_limits : (seats : List ℕ) → bad_plan seats ≡ false → any (bad_row seats) seat_count ≡ false →
@@ -38,7 +38,7 @@ pub returns : goal.returns
 unfolding plan_refusal
 returns c =
     simp (by-claims (goal.at.returns c).After-claim_sum-claims, le-ltb _ _ c.if-claims-gt-SEATS.false)
-    (c.owner_refusal.ensures _ _
+    (c.check_owner.ensures _ _
     (record {
       share_is = c.at-share.ensures;
       limit_is = c.at-limit.ensures;

@@ -1,0 +1,56 @@
+-- `plan::try_open` meets its contract. Assumes nothing.
+use Rattle.std.proofs.Common.{◌≡◌, ap, ◌∙◌, sym, le-leb}
+use Rattle.std.proofs.lemmas.Result.{err_from_is_err_and}
+use Rattle.rules.specs.Numbers.{refused_for, not_zero}
+use Rattle.rules.specs.Tables.{tables}
+use Rattle.rules.specs.Plan.{open_refusal, open_seat}
+use Rattle.rows.specs.Fine.{sized_of}
+use Rattle.plan.proofs.Census.{by-plan, counts_none, row_refused}
+use Rattle.plan.proofs.try_open.Goals as goal
+use Rattle.plan.proofs.try_open.Goals.{After-check_plan}
+
+pub returns-then-is_unsized : goal.returns-then-is_unsized
+unfolding open_seat open_refusal
+returns-then-is_unsized c = simp (← c.is_unsized.ensures, c.if-is_unsized.true)
+
+pub returns-then-owner-ge-OWNERS : goal.returns-then-owner-ge-OWNERS
+unfolding open_seat open_refusal
+returns-then-owner-ge-OWNERS c =
+    simp (← c.is_unsized.ensures, c.if-is_unsized.false, le-leb _ _ c.if-owner-ge-OWNERS.true)
+
+pub take_census-requires : goal.take_census-requires
+take_census-requires c =
+    let found = tables c.args.values.now c.args.words.now c.args.seats.now in
+    record { whole = (sized_of found (sym c.is_unsized.ensures ∙ c.if-is_unsized.false)).rows; none = counts_none _ }
+
+-- THE OWNER IS ONE: a bad row is refused, and else the plan decides
+pub returns-in_err-free : goal.returns-in_err-free
+unfolding open_seat
+returns-in_err-free c =
+    let found = tables c.args.values.now c.args.words.now c.args.seats.now in
+    let p = err_from_is_err_and c.from_residual.result c.from_residual.ensures.1 in
+    let bad = c.in_err-free.ensures in
+    rw (p.1, p.2, bad.0)
+    (simp (by-plan found _ (sym c.is_unsized.ensures ∙ c.if-is_unsized.false) c.if-owner-ge-OWNERS.false, row_refused _ c.args.owner bad.1))
+
+-- THE OWNER IS ONE: a bad row is refused, and else the plan decides
+refusal_is : (c : After-check_plan) → open_refusal (tables c.args.values.now c.args.words.now c.args.seats.now) c.args.owner ≡ refused_for c.check_plan.result
+refusal_is c =
+    let found = tables c.args.values.now c.args.words.now c.args.seats.now in
+    by-plan found _ (sym c.is_unsized.ensures ∙ c.if-is_unsized.false) c.if-owner-ge-OWNERS.false ∙ sym c.check_plan.ensures
+
+-- the plan refuses
+pub returns-in_err-check_plan : goal.returns-in_err-check_plan
+unfolding open_seat
+returns-in_err-check_plan c =
+    let due = refusal_is (goal.at.returns-in_err-check_plan c).After-check_plan in
+    let p = err_from_is_err_and c.from_residual-in_err-check_plan.result c.from_residual-in_err-check_plan.ensures.1 in
+    rw (p.1, p.2) (simp (due, c.in_err-check_plan.was, not_zero))
+
+-- or it does not
+pub returns : goal.returns
+unfolding open_seat
+returns c =
+    let due = refusal_is (goal.at.returns c).After-check_plan in
+    let sound = c.in_ok-free.ensures in
+    simp (due, c.in_ok-check_plan.was, c.open_row.ensures, ← sound.free_is)
