@@ -17,7 +17,8 @@ time_is c =
 pub returns-then-top-time : goal.returns-then-top-time
 unfolding time_step
 returns-then-top-time c = λ t.
-    simp (time_is (goal.at.returns-then-top-time c).After-due_time-time, ← c.top.ensures, lt-ltb c.top.result c.due_time-time.result (omega arith)) (c.abort.ensures t)
+    simp (time_is (goal.at.returns-then-top-time c).After-due_time-time, ← c.top.ensures, lt-ltb c.top.result c.due_time-time.result (omega arith))
+    (c.abort.ensures t)
 
 pub returns : goal.returns
 unfolding time_step
