@@ -1,5 +1,5 @@
 -- `commit::time_step` meets its contract. Assumes nothing.
-use Rattle.std.proofs.Common.{◌≡◌, refl, le-ltb, lt-ltb}
+use Rattle.std.proofs.Common.{arith, ◌≡◌, refl, le-ltb, lt-ltb}
 use Rattle.rules.specs.Layout.{row}
 use Rattle.rules.specs.Advance.{commit_time, time_step}
 use Rattle.seats.specs.Outcomes.{next, same}
@@ -17,10 +17,11 @@ time_is c =
 pub returns-then-top-time : goal.returns-then-top-time
 unfolding time_step
 returns-then-top-time c = λ t.
-    simp (time_is (goal.at.returns-then-top-time c).After-due_time-time, ← c.top.ensures, lt-ltb _ _ c.if-top-time.true) (c.abort.ensures t)
+    simp (time_is (goal.at.returns-then-top-time c).After-due_time-time, ← c.top.ensures, lt-ltb c.top.result c.due_time-time.result (omega arith))
+    (c.abort.ensures t)
 
 pub returns : goal.returns
 unfolding time_step
 returns c = λ t.
-    simp (time_is (goal.at.returns c).After-due_time-time, ← c.top.ensures, le-ltb _ _ c.if-top-time.false)
+    simp (time_is (goal.at.returns c).After-due_time-time, ← c.top.ensures, le-ltb c.top.result c.due_time-time.result (omega arith))
     (same refl refl refl (next _ _ _ c.give.ensures c.move_to.ensures refl))
