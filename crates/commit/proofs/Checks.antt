@@ -2,16 +2,21 @@
 use Rattle.std.proofs.Common.{ℕ, ◌≤◌, ◌<◌, ◌≡◌, refl, sym, Bool, true, false, cond, not, List, arith, eqb-true, le-leb, eqb, ltb, get_or, set}
 use Rattle.std.proofs.lemmas.Bool.{lt-leb}
 use Rattle.clock.specs.Word.{top, write_time, extended}
-use Rattle.rules.specs.Layout.{row, read_item, kept_write, kept_read}
+use Rattle.rules.specs.Layout.{row, writes, read_item, kept_read}
 use Rattle.rules.specs.Tables.{Tables, with_words}
 use Rattle.rules.specs.Work.{write_of}
-use Rattle.rules.specs.Advance.{let_go, version_gone, by_word, verdict, is_own, judged, passed_to, passed, stretched, ruled, check_step}
+use Rattle.rules.specs.Advance.{let_go, by_word, verdict, is_own, judged, passed_to, passed, stretched, ruled, check_step}
 use Rattle.rules.specs.declared.Answer.TheVariants.{Aborted}
+use Rattle.rules.specs.Numbers.{abort_number}
+use Rattle.rules.specs.declared.Abort.{Abort}
+use Rattle.rules.specs.declared.Abort.TheVariants.{VersionGone}
 use Rattle.rules.specs.declared.Verdict.{Verdict}
 use Rattle.rules.specs.declared.Verdict.TheVariants.{Passes, Extends, Fails}
 use Rattle.rows.specs.Fine.{kept_below, time-top}
+use Rattle.seats.specs.Entries.{IsRead}
 use Rattle.seats.specs.Heads.{HeadOf}
 use Rattle.seats.specs.declared.Head.{Head}
+use Rattle.seats.specs.declared.ReadEntry.{ReadEntry}
 use Rattle.commit.specs.Steps.{ChecksWord}
 
 module _ (t : Tables) (s : ℕ) {h : Head} (q : HeadOf (row t.seats s) h) where
@@ -23,11 +28,13 @@ module _ (t : Tables) (s : ℕ) {h : Head} (q : HeadOf (row t.seats s) h) where
   unfolding judged verdict
   judged_covered l = simp (← q.position_is, ← q.time_is, le-leb _ _ l)
 
-  pub judged_word : {item kept_w word w : ℕ} {found : Verdict} → kept_read g h.position < h.time →
-      item ≡ read_item g h.position → kept_w ≡ kept_write g h.position → word ≡ get_or t.words item 0 → write_of g item ≡ w →
-      found ≡ by_word kept_w h.time word (ltb w h.writes) → judged t s ≡ found
+  pub judged_word : {e : ReadEntry} {word : ℕ} {own : Bool} {found : Verdict} → IsRead g h.position e → e.kept_read < h.time →
+      word ≡ get_or t.words e.item 0 → own ≡ ltb (write_of g e.item) (writes g) →
+      found ≡ by_word e.kept_write h.time word own → judged t s ≡ found
   unfolding judged verdict is_own
-  judged_word l a b d o f = simp (← q.position_is, ← q.time_is, ← q.writes_is, lt-leb _ _ l, ← a, ← b, ← d, o) (sym f)
+  judged_word {e} r l d o f =
+      let uncovered : kept_read g h.position < h.time = omega (arith, r.kept_read_is) in
+      simp (← q.position_is, ← q.time_is, lt-leb _ _ uncovered, ← r.item_is, ← r.kept_write_is, ← d, ← o) (sym f)
 
   -- WHAT IT COMES TO, of the record at position
   module _ {item : ℕ} (i : item ≡ read_item g h.position) where
@@ -44,27 +51,28 @@ module _ (t : Tables) (s : ℕ) {h : Head} (q : HeadOf (row t.seats s) h) where
     unfolding check_step ruled stretched
     check_extends {words' = words'} e d l z = rw e (simp (← q.position_is, ← q.time_is, ← i, ← d, ← l, ← z) (passed_is words'))
 
-pub check_fails : (t : Tables) (s : ℕ) {why : ℕ} → judged t s ≡ Fails why → let_go t s (Aborted why) ≡ check_step t s
+pub check_fails : (t : Tables) (s : ℕ) {why : Abort} → judged t s ≡ Fails why → let_go t s (Aborted (abort_number why)) ≡ check_step t s
 unfolding check_step ruled
 check_fails t s e = rw e refl
 
 -- a word that is extended has the write time that was kept
-not_extends : (n : ℕ) → Fails n ≡ Extends → ⊥
-not_extends n e = let z : ◌≡◌ {A = ℕ} 0 1 = cc in omega arith
+not_extends : (why : Abort) → Fails why ≡ Extends → ⊥
+not_extends why e = let z : ◌≡◌ {A = ℕ} 0 1 = cc in omega arith
 
 pub extends_kept : (kept_w time word : ℕ) (own : Bool) → by_word kept_w time word own ≡ Extends → write_time word ≡ kept_w
 unfolding by_word
 extends_kept kept_w time word own e = eqb-true (write_time word) kept_w (go (eqb (write_time word) kept_w) _ e)
   where
-    go : (b : Bool) (o : Verdict) → cond (not b) (Fails version_gone) o ≡ Extends → b ≡ true
+    go : (b : Bool) (o : Verdict) → cond (not b) (Fails VersionGone) o ≡ Extends → b ≡ true
     go true o q = refl
-    go false o q = absurd (not_extends version_gone q)
+    go false o q = absurd (not_extends VersionGone q)
 
 -- the clock takes the time: it is not above T, nor below the word's write time
-pub may_extend : {g : List ℕ} {records : ℕ} {h : Head} {item kept_w : ℕ} (word : ℕ) → ChecksWord g records h item kept_w →
-    write_time word ≡ kept_w → (write_time word ≤ h.time) × (h.time ≤ top)
+pub may_extend : {g : List ℕ} {records : ℕ} {h : Head} {e : ReadEntry} (word : ℕ) → ChecksWord g records h e →
+    write_time word ≡ e.kept_write → (write_time word ≤ h.time) × (h.time ≤ top)
 may_extend {h = h} word r w =
     let q = r.in_use.head in
+    let entry = r.entry_is in
     let kept = kept_below _ _ r.in_use.sound h.position (omega arith) (omega arith) in
     let late = time-top _ _ r.in_use.sound (omega arith) in
     (omega arith, omega arith)

@@ -1,5 +1,4 @@
 -- Laws that the proofs of this crate share.
 pub mod Folds
 pub mod Entries
-pub mod Words
 pub mod Checks

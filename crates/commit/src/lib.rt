@@ -2,9 +2,10 @@
 #![tactic(auto)]
 
 ghost use Rattle.std.specs.Prelude.{◌≡◌, ℕ, ◌≤◌, length};
-ghost use Rattle.clock.specs.Word.{top, is_locked, write_time, read_time, fresh, extended};
-ghost use Rattle.rules.specs.Layout.{most_reads, most_writes, row, time as time_of};
+ghost use Rattle.clock.specs.Word.{is_locked, read_time};
+ghost use Rattle.rules.specs.Layout.{most_reads, row, time as time_of};
 ghost use Rattle.rules.specs.Tables.{Tables};
+ghost use Rattle.rules.specs.Numbers.{abort_number};
 ghost use Rattle.rules.specs.Lent.{lent, left, lent_locks, left_locks, lent_seats, left_seats};
 ghost use Rattle.rules.specs.Advance.{held_locks, released, let_go, moved, lock_step, seen_time};
 ghost use Rattle.rules.specs.Advance.{due_time, time_step, is_blocked, by_word, passed_to, check_step};
@@ -16,28 +17,17 @@ ghost use Rattle.seats.specs.Ready.{InUse};
 ghost use Rattle.commit.specs.Steps.{Holding, Locking, LocksNext, Checking, ChecksNext, ChecksWord, Storing, StoresNext};
 ghost use Rattle.commit.specs.Promises.{AdvanceAnswered, AbandonAnswered};
 
-use clock::Packed;
-use rules::{Answer, Verdict};
+use rules::{Abort, Answer, Refusal, Verdict};
 use seats::layout::*;
-use seats::{Admission, Head, admit, at, free_row, give, row_of, store, write_of};
-
-// The numbers of an abort.
-const WORD_LOCKED: u64 = 21;
-
-const VERSION_GONE: u64 = 22;
-
-const WORD_BLOCKED: u64 = 23;
-
-const TIME_RUN_OUT: u64 = 24;
+use seats::{Head, ReadEntry, WriteEntry, admit, at, free_row, give, row_of, store, write_of};
 
 // LETTING GO: an abort and Abandon
 // Clears the locks of a row's first n write entries.
 fn release(words: &mut [u64], row: &[u64], n: u64)
-    requires { n ≤ most_writes }
     ensures { words.new ≡ released words.old row.now n }
 {
     for i in 0..n {
-        let item = at(row, WRITE_ITEM + WRITE_WIDTH * i);
+        let item = WriteEntry::of(row, i).item;
         let word = at(words, item);
         store(words, item, clock::unlock(word));
     }
@@ -62,12 +52,12 @@ fn let_go(words: &mut [u64], seats: &mut [u64], seat: u64, head: Head)
     free_row(seats, seat);
 }
 
-fn abort(words: &mut [u64], seats: &mut [u64], seat: u64, head: Head, why: u64) -> Answer
+fn abort(words: &mut [u64], seats: &mut [u64], seat: u64, head: Head, why: Abort) -> Answer
     requires { Holding (row seats.old seat) (length words.old) head }
-    ensures { (t : Tables) → left_locks t result words.new seats.new ≡ let_go (lent_locks t words.old seats.old) seat (Aborted why) }
+    ensures { (t : Tables) → left_locks t result words.new seats.new ≡ let_go (lent_locks t words.old seats.old) seat (Aborted (abort_number why)) }
 {
     let_go(words, seats, seat, head);
-    Answer::Aborted(why)
+    Answer::from(why)
 }
 
 // LOCKING
@@ -82,13 +72,10 @@ fn lock_step(words: &mut [u64], seats: &mut [u64], seat: u64, head: Head) -> Ans
     requires { LocksNext (row seats.old seat) (length words.old) head }
     ensures { (t : Tables) → left_locks t result words.new seats.new ≡ lock_step (lent_locks t words.old seats.old) seat }
 {
-    let item = at(
-        row_of(seats, seat),
-        WRITE_ITEM + WRITE_WIDTH * head.position,
-    );
+    let item = WriteEntry::of(row_of(seats, seat), head.position).item;
     let word = at(words, item);
     if clock::is_locked(word) {
-        return abort(words, seats, seat, head, WORD_LOCKED);
+        return abort(words, seats, seat, head, Abort::WordLocked);
     }
     store(words, item, clock::lock(word));
     move_to(seats, seat, LOCKING, head.position + 1);
@@ -97,21 +84,19 @@ fn lock_step(words: &mut [u64], seats: &mut [u64], seat: u64, head: Head) -> Ans
 
 // The greatest of 0 and the kept write times of a row's first n read entries.
 fn seen_time(row: &[u64], n: u64) -> u64
-    requires { n ≤ most_reads }
     ensures { result ≡ seen_time row.now n }
 {
     (0..n)
-        .map(|i| at(row, KEPT_WRITE + READ_WIDTH * i))
+        .map(|i| ReadEntry::of(row, i).kept_write)
         .fold(0, u64::max)
 }
 
 // The greatest of `from` and one more than the present read time of each of the first n records to be written.
 fn due_time(words: &[u64], row: &[u64], from: u64, n: u64) -> u64
-    requires { n ≤ most_writes }
     ensures { result ≡ due_time words.now row.now from n }
 {
     (0..n)
-        .map(|i| clock::read_time(at(words, at(row, WRITE_ITEM + WRITE_WIDTH * i))) + 1)
+        .map(|i| clock::read_time(at(words, WriteEntry::of(row, i).item)) + 1)
         .fold(from, u64::max)
 }
 
@@ -122,7 +107,7 @@ fn time_step(words: &mut [u64], seats: &mut [u64], seat: u64, head: Head) -> Ans
     let row = row_of(seats, seat);
     let time = due_time(words, row, seen_time(row, head.reads), head.writes);
     if clock::top() < time {
-        return abort(words, seats, seat, head, TIME_RUN_OUT);
+        return abort(words, seats, seat, head, Abort::TimeRunOut);
     }
     move_to(seats, seat, CHECKING, 0);
     give(seats, seat, TIME, time);
@@ -142,30 +127,19 @@ fn judge(kept_write: u64, time: u64, word: u64, own: bool) -> Verdict
     ensures { result ≡ by_word kept_write time word own }
 {
     if clock::write_time(word) != kept_write {
-        return Verdict::Fails(VERSION_GONE);
+        return Verdict::Fails(Abort::VersionGone);
     }
     if own {
         return Verdict::Passes;
     }
     let read = clock::read_time(word);
     if is_blocked(clock::is_locked(word), read, time) {
-        return Verdict::Fails(WORD_BLOCKED);
+        return Verdict::Fails(Abort::WordBlocked);
     }
     if read < time {
         return Verdict::Extends;
     }
     Verdict::Passes
-}
-
-// The time is one that the word can take, so the clock gives a word.
-fn extended_word(word: u64, time: u64) -> u64
-    requires { (write_time word ≤ time) × (time ≤ top) }
-    ensures { result ≡ extended word time }
-{
-    let Packed::Word(w) = clock::extend(word, time) else {
-        return 0;
-    };
-    w
 }
 
 // Passing a check: position up by one.
@@ -182,19 +156,19 @@ fn check_word(
     seats: &mut [u64],
     seat: u64,
     head: Head,
-    item: u64,
-    kept_write: u64,
+    entry: ReadEntry,
 ) -> Answer
-    requires { ChecksWord (row seats.old seat) (length words.old) head item kept_write }
+    requires { ChecksWord (row seats.old seat) (length words.old) head entry }
     ensures { (t : Tables) → left_locks t result words.new seats.new ≡ check_step (lent_locks t words.old seats.old) seat }
 {
+    let item = entry.item;
     let word = at(words, item);
-    let row = row_of(seats, seat);
-    let own = write_of(row, head.writes, item) < head.writes;
-    match judge(kept_write, head.time, word, own) {
+    let own = write_of(row_of(seats, seat), head.writes, item).is_some();
+    match judge(entry.kept_write, head.time, word, own) {
         Verdict::Passes => pass(seats, seat, head.position, item),
         Verdict::Extends => {
-            store(words, item, extended_word(word, head.time));
+            // The time is one that the word can take, so the clock gives a word.
+            store(words, item, clock::extend(word, head.time).unwrap());
             pass(seats, seat, head.position, item)
         }
         Verdict::Fails(why) => abort(words, seats, seat, head, why),
@@ -206,13 +180,11 @@ fn check_step(words: &mut [u64], seats: &mut [u64], seat: u64, head: Head) -> An
     requires { ChecksNext (row seats.old seat) (length words.old) head }
     ensures { (t : Tables) → left_locks t result words.new seats.new ≡ check_step (lent_locks t words.old seats.old) seat }
 {
-    let row = row_of(seats, seat);
-    let item = at(row, READ_ITEM + READ_WIDTH * head.position);
-    let kept_write = at(row, KEPT_WRITE + READ_WIDTH * head.position);
-    if head.time <= at(row, KEPT_READ + READ_WIDTH * head.position) {
-        return pass(seats, seat, head.position, item);
+    let entry = ReadEntry::of(row_of(seats, seat), head.position);
+    if head.time <= entry.kept_read {
+        return pass(seats, seat, head.position, entry.item);
     }
-    check_word(words, seats, seat, head, item, kept_write)
+    check_word(words, seats, seat, head, entry)
 }
 
 fn seal_step(seats: &mut [u64], seat: u64, time: u64) -> Answer
@@ -224,17 +196,6 @@ fn seal_step(seats: &mut [u64], seat: u64, time: u64) -> Answer
 }
 
 // STORING
-// The time is not above T, so the clock gives a word.
-fn fresh_word(time: u64) -> u64
-    requires { time ≤ top }
-    ensures { result ≡ fresh time }
-{
-    let Packed::Word(w) = clock::fresh(time) else {
-        return 0;
-    };
-    w
-}
-
 fn store_step(
     values: &mut [u64],
     words: &mut [u64],
@@ -245,13 +206,12 @@ fn store_step(
     requires { StoresNext (row seats.old seat) (length words.old) head }
     ensures { left result values.new words.new seats.new ≡ store_step (lent values.old words.old seats.old) seat }
 {
-    let row = row_of(seats, seat);
-    let item = at(row, WRITE_ITEM + WRITE_WIDTH * head.position);
-    let value = at(row, WRITE_VALUE + WRITE_WIDTH * head.position);
-    store(values, item, value);
-    store(words, item, fresh_word(head.time));
+    let entry = WriteEntry::of(row_of(seats, seat), head.position);
+    store(values, entry.item, entry.value);
+    // The time is not above T, so the clock gives a word.
+    store(words, entry.item, clock::fresh(head.time).unwrap());
     give(seats, seat, POSITION, head.position + 1);
-    Answer::Stored(item)
+    Answer::Stored(entry.item)
 }
 
 fn done_step(seats: &mut [u64], seat: u64, time: u64) -> Answer
@@ -314,7 +274,7 @@ fn advance_in(
         WORKING | LOCKING => lock_phase(words, seats, seat, head),
         CHECKING => check_phase(words, seats, seat, head),
         STORING => store_phase(values, words, seats, seat, head),
-        FREE | PAST_PHASES..=GREATEST => Answer::Refused(3),
+        FREE | PAST_PHASES..=u64::MAX => Answer::from(Refusal::Damaged),
     }
 }
 
@@ -329,8 +289,8 @@ pub fn advance(
     ensures { AdvanceAnswered (lent values.old words.old seats.old) owner seat (left result values.new words.new seats.new) }
 {
     match admit(values, words, seats, owner, seat, false, STORING) {
-        Admission::Refused(why) => Answer::Refused(why),
-        Admission::Ready(head) => advance_in(values, words, seats, seat, head),
+        Ok(head) => advance_in(values, words, seats, seat, head),
+        Err(why) => Answer::from(why),
     }
 }
 
@@ -345,10 +305,10 @@ pub fn abandon(
     ensures { AbandonAnswered (lent values.now words.old seats.old) owner seat (left result values.now words.new seats.new) }
 {
     match admit(values, words, seats, owner, seat, false, CHECKING) {
-        Admission::Refused(why) => Answer::Refused(why),
-        Admission::Ready(head) => {
+        Ok(head) => {
             let_go(words, seats, seat, head);
             Answer::Dropped(seat)
         }
+        Err(why) => Answer::from(why),
     }
 }

@@ -1,6 +1,6 @@
 -- A row's entries, whose numbers travel together.
 use Rattle.std.specs.Prelude.{ℕ, ◌≡◌, List}
-use Rattle.std.proofs.Common.{ap}
+use Rattle.std.proofs.Common.{ap, ◌∙◌}
 use Rattle.rules.specs.Layout.{read_item, read_value, kept_write, kept_read, write_item, write_value}
 use Rattle.seats.specs.declared.ReadEntry.{ReadEntry}
 use Rattle.seats.specs.declared.WriteEntry.{WriteEntry}
@@ -33,3 +33,10 @@ pub record IsWrite (g : List ℕ) (i : ℕ) (e : WriteEntry) : Type 0 where
 
 pub is_write : (g : List ℕ) (i : ℕ) {e : WriteEntry} → e ≡ write_entry g i → IsWrite g i e
 is_write g i q = record { item_is = ap (λ (e : WriteEntry). e.item) q; value_is = ap (λ (e : WriteEntry). e.value) q }
+
+-- an entry of a part of the table that is the row
+pub is_read_of : {g part : List ℕ} (i : ℕ) {e : ReadEntry} → part ≡ g → e ≡ read_entry part i → IsRead g i e
+is_read_of {g} i same q = is_read g i (q ∙ ap (λ (part : List ℕ). read_entry part i) same)
+
+pub is_write_of : {g part : List ℕ} (i : ℕ) {e : WriteEntry} → part ≡ g → e ≡ write_entry part i → IsWrite g i e
+is_write_of {g} i same q = is_write g i (q ∙ ap (λ (part : List ℕ). write_entry part i) same)

@@ -1,12 +1,12 @@
 -- Outcomes and runs of stores, part by part; and what the code reads from a seat's part of the table is what the rules read from its row.
-use Rattle.std.specs.Prelude.{ℕ, ◌<◌, ◌≤◌, min, ◌≡◌, refl, List, get_or, Option, Some, None}
+use Rattle.std.specs.Prelude.{ℕ, ◌<◌, ◌≤◌, min, ◌≡◌, refl, List, get_or, ltb, Option, Some, None, is_some}
 use Rattle.std.proofs.Common.{sym, ap, ◌∙◌, arith}
 use Rattle.rules.specs.Tests.{first}
 use Rattle.rules.specs.Layout.{most_reads, most_writes, put, reads, writes}
 use Rattle.rules.specs.Tables.{tables, answered}
 use Rattle.rules.specs.Work.{read_names, write_names, read_of, write_of}
 use Rattle.rules.specs.declared.Answer.{Answer}
-use Rattle.seats.specs.Search.{found, found_some, found_none}
+use Rattle.seats.specs.Search.{found, found_some, found_none, is_some_found}
 
 -- two outcomes are the same where their parts are
 pub same : {r r' : Answer} {v v' w w' s s' : List ℕ} → r ≡ r' → v ≡ v' → w ≡ w' → s ≡ s' →
@@ -57,3 +57,9 @@ module _ {g part : List ℕ} (e : part ≡ g) where
     write_missing a l q is =
         let f = found_none (write_names part item) (min n most_writes) (sym q ∙ is) in
         omega (arith, f, write_of_lem item a l refl)
+
+    -- whether one is
+    pub write_is_found : n ≡ writes g → n ≤ most_writes → r ≡ found (write_names part item) (min n most_writes) → is_some r ≡ ltb (write_of g item) (writes g)
+    write_is_found a l q =
+        let z : min n most_writes ≡ n = omega arith in
+        ap is_some q ∙ is_some_found _ _ ∙ rw (write_of_lem item a l refl, ← a, z) refl

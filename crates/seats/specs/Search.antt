@@ -10,6 +10,10 @@ found_by any_passes i = cond any_passes (Some i) None
 abbrev pub found : (ℕ → Bool) → ℕ → Option ℕ
 found p n = found_by (any p n) (first p n)
 
+pub is_some_found : (any_passes : Bool) (i : ℕ) → is_some (found_by any_passes i) ≡ any_passes
+is_some_found true i = refl
+is_some_found false i = refl
+
 abbrev number_in : Option ℕ → ℕ
 number_in None = 0
 number_in (Some i) = i

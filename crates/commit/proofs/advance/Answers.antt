@@ -4,16 +4,13 @@ use Rattle.rules.specs.Advance.{advance}
 use Rattle.seats.specs.Ready.{in_use, ready_call, refused_call}
 use Rattle.commit.proofs.advance.Goals as goal
 
-pub returns-in-Refused : goal.returns-in-Refused
+pub returns-in-Err : goal.returns-in-Err
 unfolding advance
-returns-in-Refused c =
-    refused_call _ _ _ _ _ (sym c.admit.ensures ∙ c.in-Refused.is)
+returns-in-Err c = rw c.from.ensures (refused_call _ _ _ _ c.admit.ensures c.in-Err.is)
 
 pub advance_in-requires : goal.advance_in-requires
-advance_in-requires c =
-    in_use _ _ _ _ _ _ (sym c.admit.ensures ∙ c.in-Ready.is)
+advance_in-requires c = in_use _ _ _ _ _ _ c.admit.ensures c.in-Ok.is
 
-pub returns-in-Ready : goal.returns-in-Ready
+pub returns-in-Ok : goal.returns-in-Ok
 unfolding advance
-returns-in-Ready c =
-    c.advance_in.ensures ∙ sym (ready_call _ _ _ _ _ _ (sym c.admit.ensures ∙ c.in-Ready.is) _)
+returns-in-Ok c = c.advance_in.ensures ∙ sym (ready_call _ _ _ _ _ _ c.admit.ensures c.in-Ok.is _)

@@ -1,6 +1,7 @@
 -- `commit::judge` meets its contract. Assumes nothing.
 use Rattle.std.proofs.Common.{◌≡◌, ◌∙◌, sym, cond, eq-eqb, le-ltb, lt-ltb, ne_eqb, ltb}
-use Rattle.rules.specs.Advance.{by_word, word_blocked}
+use Rattle.rules.specs.Advance.{by_word}
+use Rattle.rules.specs.declared.Abort.TheVariants.{WordBlocked}
 use Rattle.rules.specs.declared.Verdict.TheVariants.{Passes, Extends, Fails}
 use Rattle.commit.proofs.judge.Goals as goal
 use Rattle.commit.proofs.judge.Goals.{After-is_blocked}
@@ -17,7 +18,7 @@ returns-then-own c =
 -- THE VERSION STANDS, and the record is not the seat's own: the lock decides, and then the read time
 unowned : (c : After-is_blocked) →
     by_word c.args.kept_write c.args.time c.args.word c.args.own
-    ≡ cond c.is_blocked.result (Fails word_blocked) (cond (ltb c.read_time-read.result c.args.time) Extends Passes)
+    ≡ cond c.is_blocked.result (Fails WordBlocked) (cond (ltb c.read_time-read.result c.args.time) Extends Passes)
 unfolding by_word
 unowned c =
     simp (

@@ -2,12 +2,8 @@
 use Rattle.std.proofs.Common.{refl}
 use Rattle.rules.specs.Advance.{let_go}
 use Rattle.seats.specs.Outcomes.{same}
-use Rattle.commit.proofs.Entries.{held_is, held_small}
+use Rattle.commit.proofs.Entries.{held_is}
 use Rattle.commit.proofs.let_go.Goals as goal
-
-pub release-requires : goal.release-requires
-release-requires c =
-    rw c.held_locks-held.ensures (held_small c.requires)
 
 pub returns : goal.returns
 unfolding let_go

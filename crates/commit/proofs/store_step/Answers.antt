@@ -1,21 +1,30 @@
 -- `commit::store_step` meets its contract. Assumes nothing.
-use Rattle.std.proofs.Common.{refl, arith}
+use Rattle.std.proofs.Common.{◌≡◌, ◌∙◌, refl, arith, Ok}
+use Rattle.clock.specs.Word.{fresh}
+use Rattle.clock.proofs.Laws.{fresh_at_word}
 use Rattle.rules.specs.Advance.{effect, store_step}
 use Rattle.rows.specs.Fine.{time-top}
-use Rattle.seats.specs.Outcomes.{entry_at, same}
+use Rattle.seats.specs.Entries.{is_write_of}
+use Rattle.seats.specs.Outcomes.{same}
 use Rattle.commit.proofs.store_step.Goals as goal
+use Rattle.commit.proofs.store_step.Goals.{After-fresh}
 
--- the time of a row that stores is not above T
-pub fresh_word-requires : goal.fresh_word-requires
-fresh_word-requires c =
+-- the time of a row that stores is not above T, so the clock gives a word
+given : (c : After-fresh) → c.fresh.result ≡ Ok (fresh c.args.head.time)
+given c =
     let used = c.requires.in_use in
-    omega (arith, c.requires.phase_is, used.head.phase_is, used.head.time_is, time-top _ _ used.sound (omega arith))
+    c.fresh.ensures
+    ∙ fresh_at_word _ (omega (arith, c.requires.phase_is, used.head.phase_is, used.head.time_is, time-top _ _ used.sound (omega arith)))
+
+pub unwrap-requires : goal.unwrap-requires
+unwrap-requires c = rw (given (goal.at.unwrap-requires c).After-fresh) refl
 
 pub returns : goal.returns
 unfolding store_step effect
 returns c =
     let head = c.requires.in_use.head in
-    let item = entry_at c.row_of-row.ensures _ c.at-item.ensures in
-    let value = entry_at c.row_of-row.ensures _ c.at-value.ensures in
-    simp (← head.position_is, ← head.time_is, item, value, ← c.fresh_word.ensures)
+    let entry = is_write_of c.args.head.position c.row_of.ensures c.of-entry.ensures in
+    let given_word = given (goal.at.returns c).After-fresh in
+    let word : c.unwrap.result ≡ fresh c.args.head.time = cc (given_word, c.unwrap.ensures) in
+    simp (← head.position_is, ← head.time_is, ← entry.item_is, ← entry.value_is, ← word)
     (same refl c.store.ensures c.store-2.ensures c.give.ensures)
