@@ -11,7 +11,7 @@ sum-requires-clause-fits c =
     let taken = λ (o : ℕ). max (get_or c.args.held.now o 0) (share c.args.seats.now o) in
     let numbers = YieldsList-from_range 0 owners owners c.map.ensures.source (omega arith) in
     fits_from_yields_list c.map.result _
-    (YieldsList-from_map _ taken numbers c.map.ensures.closure (λ x r q k. search (rules, tests)))
+    (YieldsList-from_map _ taken numbers c.map.ensures.closure (λ x r q k. (search rules, search (rules, tests))))
     (omega (arith, claims_are c.requires, claims_small c.requires))
 
 pub returns : goal.returns
@@ -19,5 +19,5 @@ returns c =
     let taken = λ (o : ℕ). max (get_or c.args.held.now o 0) (share c.args.seats.now o) in
     let numbers = YieldsList-from_range 0 owners owners c.map.ensures.source (omega arith) in
     sum_from_yields_List c.map.result _ c.sum.ensures.ran
-    (YieldsList-from_map _ taken numbers c.map.ensures.closure (λ x r q k. search (rules, tests)))
+    (YieldsList-from_map _ taken numbers c.map.ensures.closure (λ x r q k. (search rules, search (rules, tests))))
     ∙ claims_are c.requires
