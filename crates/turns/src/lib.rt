@@ -108,7 +108,7 @@ fn first_of(n: u64, len: usize) -> usize
 }
 
 // Setup, as the tape allows it: once, and of at most 1024 records.
-#[tactic(auto, using(crate::specs::Laws::setup_again_lem))]
+#[tactic(auto, using(crate::specs::Laws::setup_again_lem, crate::specs::Laws::setup_many))]
 fn set_up(
     count: u64,
     start: u64,

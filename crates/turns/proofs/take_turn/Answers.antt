@@ -1,6 +1,6 @@
 -- `turns::take_turn` meets its contract. Assumes nothing.
 use Rattle.std.proofs.Common.{◌+◌, ◌≤◌, ◌≡◌, arith, sym, ◌∙◌, length}
-use native.Mathlib.Nat.{add-sub_cancel_left}
+use Rattle.std.proofs.Math.Nat.{add-sub_cancel_left}
 use Rattle.frames.specs.declared.Frame.TheVariants.{Body}
 use Rattle.frames.specs.Decode.{length_size, frame_of}
 use Rattle.turns.specs.Turns.{turn_of, frame_turn}
