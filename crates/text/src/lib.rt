@@ -8,7 +8,7 @@ ghost use Rattle.text.specs.Promises.{WidthIs};
 ghost use Rattle.text.specs.Inner.{number_of, head_of, headed, HeadWidth, Put};
 
 // How many letters of a word are written.
-pub const MOST_LETTERS: usize = 10;
+const MOST_LETTERS: usize = 10;
 
 // How many decimal digits n has.
 pub fn width(n: u64) -> usize

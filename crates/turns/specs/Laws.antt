@@ -1,11 +1,9 @@
 -- What callers may rest on: what a turn takes of the tape, how long its line is, and how many records it lends. Assumes nothing.
-use Prim.Native.Nat.{ℕ, zero, suc, ◌+◌, ◌-◌, ◌*◌, ◌/◌, ◌≤◌, ◌<◌}
-use Rattle.std.proofs.Common.{arith, ap, subst, length-append}
-use Rattle.std.specs.Prelude.{Bool, true, false, cond, ◌≡◌, refl, ltb, leb, eqb, drop, get_or, Result, Ok, Err}
-use mathlib.Core.List.{List, [], ◌++◌}
-use Rattle.std.proofs.Math.ListN.{length, take, length-drop}
-use Rattle.std.proofs.Math.Seq.{length-take-le}
-use borrow.Author.Tests.{lt-ltb, le-ltb, eqb-true, leb-true, leb-false, ltb-true, ltb-false}
+use Rattle.std.specs.Prelude.{ℕ, zero, suc, ◌+◌, ◌-◌, ◌*◌, ◌/◌, ◌≤◌, ◌<◌, ◌≡◌, refl, Bool, true, false, cond, ltb, leb, eqb}
+use Rattle.std.specs.Prelude.{List, [], ◌++◌, length, take, drop, get_or, Result, Ok, Err}
+use Rattle.std.proofs.Common.{arith, ap, subst, length-append, lt-ltb, le-ltb}
+use Rattle.std.proofs.lemmas.List.{length-drop, length-take-le}
+use Rattle.std.proofs.lemmas.Bool.{eqb-true, leb-true, leb-false, ltb-true, ltb-false}
 use Rattle.text.specs.Text.{width_of, width_in, decimal, bytes, put_in}
 use Rattle.text.specs.Puts.{length-line, length_last, length-decimal}
 use Rattle.rules.specs.Layout.{most_records, plan_width}

@@ -178,6 +178,7 @@ fn records_after(c: Call, a: Answer, records: u64) -> u64
     }
 }
 
+// The three tables travel as slices and in no struct of `&mut`s: a clause names what such a struct leaves as `tables.exit.1.1.0.now`.
 // Answers the call at a place, whose body is b, and puts its line at `at`.
 fn call_turn(
     c: Call,

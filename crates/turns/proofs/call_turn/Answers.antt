@@ -1,5 +1,4 @@
 -- `turns::call_turn` meets its contract. Assumes nothing.
-use Rattle.std.proofs.Common.{arith}
 use Rattle.turns.proofs.Turning.{call_taken}
 use Rattle.turns.proofs.call_turn.Goals as goal
 

@@ -1,6 +1,6 @@
 -- `Kind::try_from` meets its contract. Assumes nothing.
 use Rattle.std.proofs.Common.{arith, refl}
-use borrow.Author.Tests.{ne_eqb}
+use Rattle.std.proofs.lemmas.Bool.{ne_eqb}
 use Rattle.frames.specs.Kinds.{kind_of}
 use Rattle.frames.proofs.KindTryFromU8.try_from.Goals as goal
 
