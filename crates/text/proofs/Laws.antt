@@ -1,5 +1,6 @@
 -- Laws of runs of stores and of decimal digits. Assumes nothing.
-use Rattle.std.specs.Prelude.{ℕ, zero, suc, ◌+◌, ◌-◌, ◌*◌, ◌/◌, ◌%◌, ◌^◌, ◌≤◌, ◌<◌, ◌≡◌, refl, List, [], ◌∷◌, ◌++◌, length, take, drop, set, max, Option, Some, None}
+use Rattle.std.specs.Prelude.{ℕ, zero, suc, ◌+◌, ◌-◌, ◌*◌, ◌/◌, ◌%◌, ◌^◌, ◌≤◌, ◌<◌, max, ◌≡◌, refl, Option, Some, None}
+use Rattle.std.specs.Prelude.{List, [], ◌∷◌, ◌++◌, length, take, drop, set}
 use Rattle.std.proofs.Common.{arith, add-one, ap, sym, ◌∙◌, append_assoc, length-append}
 use Rattle.std.proofs.Math.Nat.{pow-succ'}
 use Rattle.std.proofs.lemmas.List.Edits.{sets, sets-eq}
@@ -44,7 +45,8 @@ width_log (suc f) (suc k) n h a b =
 -- 0 has one digit, as 1 has
 pub width_least : (n k m : ℕ) → m ≡ max n 1 → k < 20 → 10 ^ k ≤ m → m < 10 * 10 ^ k → k + 1 ≡ width_of n
 unfolding width_of
-width_least zero k m e h a b = sym (width_log 19 k 1 (omega arith) (omega arith) (omega arith)) ∙ width_done 19 1 (omega arith) ∙ sym (width_done 19 0 (omega arith))
+width_least zero k m e h a b =
+    sym (width_log 19 k 1 (omega arith) (omega arith) (omega arith)) ∙ width_done 19 1 (omega arith) ∙ sym (width_done 19 0 (omega arith))
 width_least (suc n) k m e h a b = sym (width_log 19 k (suc n) (omega arith) (omega arith) (omega arith))
 
 pub digits_back : (l : List ℕ) (at i n : ℕ) → 0 < i → sets (set l (at + (i - 1)) (48 + n % 10)) at (digits (i - 1) (n / 10)) ≡ sets l at (digits i n)
@@ -63,7 +65,8 @@ sets-one : (l : List ℕ) (i j : ℕ) (y : ℕ) (ys : List ℕ) → j ≡ i + 1 
 sets-one l i j y ys e = rw (e, add-one)
 
 -- a number's digits put, and the byte behind them
-pub number_put : {l m : List ℕ} {at k : ℕ} (n end : ℕ) → k ≡ width_of n → m ≡ sets l at (digits k n) → Put l at (number_of n end) (at + k + 1) (set m (at + k) end)
+pub number_put : {l m : List ℕ} {at k : ℕ} (n end : ℕ) → k ≡ width_of n → m ≡ sets l at (digits k n)
+    → Put l at (number_of n end) (at + k + 1) (set m (at + k) end)
 unfolding decimal
 number_put {l} {m} {at} {k} n end e f =
     record {
@@ -79,7 +82,8 @@ headed_is None w x = refl
 
 pub length_headed : (head : Option ℕ) (w : List ℕ) (x : ℕ) → length (headed head w x) ≡ length (head_of head) + length w + width_of x + 2
 length_headed head w x =
-    omega (arith, ap length (headed_is head w x), length-append (head_of head) (w ++ 32 ∷ number_of x 10), length-append w (32 ∷ number_of x 10), length_number x 10)
+    let rest : List ℕ = 32 ∷ number_of x 10 in
+    omega (arith, ap length (headed_is head w x), length-append (head_of head) (w ++ rest), length-append w rest, length_number x 10)
 
 -- its pieces put one behind another
 pub line_put : (head : Option ℕ) (w : List ℕ) (x : ℕ) {l a b c : List ℕ} {at p q e : ℕ}

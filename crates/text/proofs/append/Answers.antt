@@ -43,8 +43,9 @@ overflow_add-space c = omega (arith, c.well_formed, c.head_width.ensures.is_leng
 
 pub put_number-requires : goal.put_number-requires
 put_number-requires c =
+    let x = length_number c.args.x 10 in
     simp length-set
-    (omega (arith, c.head_width.ensures.is_length, c.put_head-word_at.ensures.end, c.put_bytes-space.ensures.end, c.width.ensures.is_width, length_number c.args.x 10))
+    (omega (arith, c.head_width.ensures.is_length, c.put_head-word_at.ensures.end, c.put_bytes-space.ensures.end, c.width.ensures.is_width, x))
 
 pub returns : goal.returns
 returns c =
