@@ -1,10 +1,9 @@
 -- What each public function promises of its result `r`, one statement a function; `NAME-one` says that the statement leaves one result.
-use Rattle.std.specs.Prelude.{ℕ, ◌≡◌}
+use Rattle.std.specs.Prelude.{ℕ, ◌≡◌, List}
 use Rattle.std.proofs.Common.{sym, ◌∙◌}
 use Rattle.rules.specs.Answers.{kind, number}
 use Rattle.rules.specs.declared.Answer.{Answer}
-use Rattle.answers.specs.declared.Spelled.{Spelled}
-use Rattle.answers.specs.Spelling.{spelled}
+use Rattle.answers.specs.Spelling.{letters_of}
 
 -- the number of an answer's word
 abbrev pub KindIs : Answer → ℕ → Type 0
@@ -20,9 +19,9 @@ NumberIs a r = r ≡ number a
 pub NumberIs-one : (a : Answer) (r q : ℕ) → NumberIs a r → NumberIs a q → r ≡ q
 NumberIs-one a r q e f = e ∙ sym f
 
--- the word of an answer
-abbrev pub SpelledIs : Answer → Spelled → Type 0
-SpelledIs a r = r ≡ spelled a
+-- the letters of an answer's word
+abbrev pub SpelledIs : Answer → List ℕ → Type 0
+SpelledIs a r = r ≡ letters_of a
 
-pub SpelledIs-one : (a : Answer) (r q : Spelled) → SpelledIs a r → SpelledIs a q → r ≡ q
+pub SpelledIs-one : (a : Answer) (r q : List ℕ) → SpelledIs a r → SpelledIs a q → r ≡ q
 SpelledIs-one a r q e f = e ∙ sym f

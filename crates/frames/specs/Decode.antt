@@ -1,9 +1,9 @@
 -- A call on the tape: a two-byte length of what follows, a kind byte, then fields, all big-endian.
-use Rattle.std.specs.Prelude.{ℕ, ◌+◌, ◌*◌, ◌-◌, ◌<◌, ◌≡◌, cond, List, ltb, leb, eqb, length, get_or}
+use Rattle.std.specs.Prelude.{ℕ, ◌+◌, ◌*◌, ◌-◌, cond, List, ltb, leb, eqb, length, get_or, Result, Ok, Err}
 use Rattle.frames.specs.declared.Call.{Call}
 use Rattle.frames.specs.declared.Call.TheVariants.{Setup, Open, Read, Write, Advance, Abandon}
-use Rattle.frames.specs.declared.Decoded.{Decoded}
-use Rattle.frames.specs.declared.Decoded.TheVariants.{Whole, Unknown, Misfit}
+use Rattle.frames.specs.declared.BadCall.{BadCall}
+use Rattle.frames.specs.declared.BadCall.TheVariants.{Unknown, Misfit}
 use Rattle.frames.specs.declared.Frame.{Frame}
 use Rattle.frames.specs.declared.Frame.TheVariants.{Nothing, Short, Body}
 
@@ -26,11 +26,6 @@ be32 b i = be16 b i * two_span + be16 b (i + 2)
 
 abbrev pub be64 : List ℕ → ℕ → ℕ
 be64 b i = be32 b i * four_span + be32 b (i + 4)
-
--- a number that was read: which, and below which
-pub record IsBelow (n bound r : ℕ) : Type 0 where
-  pub is_number : r ≡ n
-  pub small : r < bound
 
 -- the bytes of a body's length; and a frame has at most so many bytes, since its length is a number of two bytes
 abbrev pub length_size : ℕ
@@ -98,18 +93,22 @@ read_call b = Read (get_or b 1 0) (get_or b 2 0) (be16 b 3)
 abbrev pub write_call : List ℕ → Call
 write_call b = Write (get_or b 1 0) (get_or b 2 0) (be16 b 3) (be64 b 5)
 
+-- the owner and the seat that an Advance and an Abandon name
+abbrev pub seat_of : List ℕ → ℕ × ℕ
+seat_of b = (get_or b 1 0, get_or b 2 0)
+
 abbrev pub advance_call : List ℕ → Call
 advance_call b = Advance (get_or b 1 0) (get_or b 2 0)
 
 abbrev pub abandon_call : List ℕ → Call
 abandon_call b = Abandon (get_or b 1 0) (get_or b 2 0)
 
--- the call c, of a body that must have n bytes: otherwise 33
-abbrev pub sized : ℕ → List ℕ → Call → Decoded
-sized n b c = cond (eqb (length b) n) (Whole c) Misfit
+-- what a body says that must have n bytes: otherwise 33
+abbrev pub sized : {X : Type 0} → ℕ → List ℕ → X → Result X BadCall
+sized n b c = cond (eqb (length b) n) (Ok c) (Err Misfit)
 
 -- a body by its kind; 34 where the kind is unknown
-unfoldable pub by_kind : ℕ → List ℕ → Decoded
+unfoldable pub by_kind : ℕ → List ℕ → Result Call BadCall
 by_kind k b =
     cond (eqb k setup_kind) (sized setup_size b (setup_call b))
     (cond (eqb k open_kind) (sized open_size b (open_call b))
@@ -117,8 +116,8 @@ by_kind k b =
     (cond (eqb k write_kind) (sized write_size b (write_call b))
     (cond (eqb k advance_kind) (sized seat_size b (advance_call b))
     (cond (eqb k abandon_kind) (sized seat_size b (abandon_call b))
-    Unknown)))))
+    (Err Unknown))))))
 
 -- a body: the call, or the fault. A length of 0 is 33
-unfoldable pub decoded : List ℕ → Decoded
-decoded b = cond (ltb 0 (length b)) (by_kind (get_or b 0 0) b) Misfit
+unfoldable pub decoded : List ℕ → Result Call BadCall
+decoded b = cond (ltb 0 (length b)) (by_kind (get_or b 0 0) b) (Err Misfit)

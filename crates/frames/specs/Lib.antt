@@ -1,3 +1,4 @@
--- A call's bytes (Decode), and what each public function promises (Promises).
+-- A call's bytes (Decode), its kind (Kinds), and what each public function promises (Promises).
 pub mod Decode
+pub mod Kinds
 pub mod Promises

@@ -1,14 +1,14 @@
 // A tape's bytes to calls: where a call's body begins and ends, and which call it is.
 #![tactic(auto)]
 
-ghost use Rattle.std.specs.Prelude.{◌≡◌, ◌+◌, ◌≤◌, length};
-ghost use Rattle.frames.specs.Decode.{be16 as be16_of, be32 as be32_of, be64 as be64_of, byte_span, two_span, four_span, IsBelow, by_kind, sized};
-ghost use Rattle.frames.specs.Decode.{setup_size, open_size, read_size, write_size, seat_size};
-ghost use Rattle.frames.specs.Decode.{setup_call, open_call, read_call, write_call, advance_call, abandon_call};
+ghost use Rattle.std.specs.Prelude.{◌≡◌, ◌+◌, ◌*◌};
+ghost use Rattle.frames.specs.Decode.{setup_size, open_size, read_size, write_size, seat_size, byte_span, sized};
+ghost use Rattle.frames.specs.Decode.{setup_call, open_call, read_call, write_call, seat_of};
+ghost use Rattle.frames.specs.Kinds.{kind_of, call_of};
 ghost use Rattle.frames.specs.Promises.{FrameIs, CallIs};
 
 // What stands at the start of the rest of a tape.
-#[derive(Clone, Copy)]
+#[derive(Clone, Copy, Debug, PartialEq, Eq)]
 pub enum Frame {
     Nothing,
     // Cut short: more bytes are wanted.
@@ -18,7 +18,7 @@ pub enum Frame {
 }
 
 // A call on the tape. A Setup's plan stays in its body.
-#[derive(Clone, Copy)]
+#[derive(Clone, Copy, Debug, PartialEq, Eq)]
 pub enum Call {
     Setup {
         count: u64,
@@ -46,40 +46,50 @@ pub enum Call {
     },
 }
 
-#[derive(Clone, Copy)]
-pub enum Decoded {
-    Whole(Call),
+// Why a body is no call.
+#[derive(Clone, Copy, Debug, PartialEq, Eq)]
+pub enum BadCall {
     // A kind that is not known: 34.
     Unknown,
     // Another length than the kind has: 33.
     Misfit,
 }
 
-// How many numbers one byte has, two bytes, and four.
-const BYTE: u64 = 256;
+// What a body's first byte says.
+#[derive(Clone, Copy, Debug, PartialEq, Eq)]
+enum Kind {
+    Setup,
+    Open,
+    Read,
+    Write,
+    Advance,
+    Abandon,
+}
 
-const TWO_BYTES: u64 = BYTE * BYTE;
+// The tape by kind byte: a match on the byte, which document 01 asks for.
+impl TryFrom<u8> for Kind {
+    type Error = BadCall;
 
-const FOUR_BYTES: u64 = TWO_BYTES * TWO_BYTES;
+    ghost try_from_gives = { λ byte r. r ≡ kind_of byte };
+
+    fn try_from(byte: u8) -> Result<Kind, BadCall> {
+        match byte {
+            0 => Ok(Kind::Setup),
+            1 => Ok(Kind::Open),
+            2 => Ok(Kind::Read),
+            3 => Ok(Kind::Write),
+            4 => Ok(Kind::Advance),
+            5 => Ok(Kind::Abandon),
+            _ => Err(BadCall::Unknown),
+        }
+    }
+}
 
 // The bytes of a body's length.
 pub const LENGTH: usize = 2;
 
 // A frame has at most so many bytes: its length is a number of two bytes.
-pub const LONGEST: usize = LENGTH + (TWO_BYTES as usize - 1);
-
-// The kinds.
-const SETUP: u8 = 0;
-
-const OPEN: u8 = 1;
-
-const READ: u8 = 2;
-
-const WRITE: u8 = 3;
-
-const ADVANCE: u8 = 4;
-
-const ABANDON: u8 = 5;
+pub const LONGEST: usize = LENGTH + u16::MAX as usize;
 
 // The bytes of each kind's body, its kind byte counted.
 const SETUP_SIZE: usize = 43;
@@ -95,147 +105,104 @@ const SEAT_SIZE: usize = 3;
 // Where a Setup's sixteen shares and sixteen limits stand in its body.
 pub const PLAN_FROM: usize = 11;
 
-fn wide(x: u8) -> u64
-    ensures { IsBelow x byte_span result }
-{
-    x as u64
-}
-
-fn be16(b: &[u8], i: usize) -> u64
-    requires { i + 2 ≤ length b.now }
-    ensures { IsBelow (be16_of b.now i) two_span result }
-{
-    let h = wide(b[i]);
-    let l = wide(b[i + 1]);
-    h * BYTE + l
-}
-
-fn be32(b: &[u8], i: usize) -> u64
-    requires { i + 4 ≤ length b.now }
-    ensures { IsBelow (be32_of b.now i) four_span result }
-{
-    let h = be16(b, i);
-    let l = be16(b, i + 2);
-    h * TWO_BYTES + l
-}
-
-fn be64(b: &[u8], i: usize) -> u64
-    requires { i + 8 ≤ length b.now }
-    ensures { result ≡ be64_of b.now i }
-{
-    let h = be32(b, i);
-    let l = be32(b, i + 4);
-    h * FOUR_BYTES + l
-}
-
 pub fn split(t: &[u8]) -> Frame
     ensures { FrameIs t.now result }
 {
-    if 0 < t.len() {
-        if t.len() < LENGTH {
-            return Frame::Short;
+    match t {
+        [] => Frame::Nothing,
+        [hi, lo, rest @ ..] => {
+            let n = usize::from(u16::from_be_bytes([*hi, *lo]));
+            if n <= rest.len() {
+                Frame::Body(n)
+            } else {
+                Frame::Short
+            }
         }
-        let n = be16(t, 0) as usize;
-        if n <= t.len() - LENGTH {
-            return Frame::Body(n);
-        }
-        return Frame::Short;
+        _ => Frame::Short,
     }
-    Frame::Nothing
 }
 
 // The call that a body is, or its fault.
-pub fn decode(b: &[u8]) -> Decoded
+pub fn decode(b: &[u8]) -> Result<Call, BadCall>
     ensures { CallIs b.now result }
 {
-    if 0 < b.len() {
-        return by_kind(b, b[0]);
-    }
-    Decoded::Misfit
+    let [kind, ..] = b else {
+        return Err(BadCall::Misfit);
+    };
+    call_of(Kind::try_from(*kind)?, b)
 }
 
-fn by_kind(b: &[u8], kind: u8) -> Decoded
-    ensures { result ≡ by_kind kind b.now }
+fn call_of(kind: Kind, b: &[u8]) -> Result<Call, BadCall>
+    ensures { result ≡ call_of kind b.now }
 {
     match kind {
-        SETUP => setup_call(b),
-        OPEN => open_call(b),
-        READ => read_call(b),
-        WRITE => write_call(b),
-        ADVANCE => advance_call(b),
-        ABANDON => abandon_call(b),
-        _ => Decoded::Unknown,
+        Kind::Setup => setup_call(b),
+        Kind::Open => open_call(b),
+        Kind::Read => read_call(b),
+        Kind::Write => write_call(b),
+        Kind::Advance => seat_of(b).map(|(owner, seat)| Call::Advance { owner, seat }),
+        Kind::Abandon => seat_of(b).map(|(owner, seat)| Call::Abandon { owner, seat }),
     }
 }
 
-fn setup_call(b: &[u8]) -> Decoded
+fn setup_call(b: &[u8]) -> Result<Call, BadCall>
     ensures { result ≡ sized setup_size b.now (setup_call b.now) }
 {
-    if b.len() == SETUP_SIZE {
-        return Decoded::Whole(Call::Setup {
-            count: be16(b, 1),
-            start: be64(b, 3),
-        });
-    }
-    Decoded::Misfit
+    let [_, n1, n0, s7, s6, s5, s4, s3, s2, s1, s0, ..] = exactly::<SETUP_SIZE>(b)?;
+    Ok(Call::Setup {
+        count: two(n1, n0),
+        start: u64::from_be_bytes([s7, s6, s5, s4, s3, s2, s1, s0]),
+    })
 }
 
-fn open_call(b: &[u8]) -> Decoded
+fn open_call(b: &[u8]) -> Result<Call, BadCall>
     ensures { result ≡ sized open_size b.now (open_call b.now) }
 {
-    if b.len() == OPEN_SIZE {
-        return Decoded::Whole(Call::Open(wide(b[1])));
-    }
-    Decoded::Misfit
+    let [_, owner] = exactly::<OPEN_SIZE>(b)?;
+    Ok(Call::Open(u64::from(owner)))
 }
 
-fn read_call(b: &[u8]) -> Decoded
+fn read_call(b: &[u8]) -> Result<Call, BadCall>
     ensures { result ≡ sized read_size b.now (read_call b.now) }
 {
-    if b.len() == READ_SIZE {
-        return Decoded::Whole(Call::Read {
-            owner: wide(b[1]),
-            seat: wide(b[2]),
-            item: be16(b, 3),
-        });
-    }
-    Decoded::Misfit
+    let [_, owner, seat, i1, i0] = exactly::<READ_SIZE>(b)?;
+    Ok(Call::Read {
+        owner: u64::from(owner),
+        seat: u64::from(seat),
+        item: two(i1, i0),
+    })
 }
 
-fn write_call(b: &[u8]) -> Decoded
+fn write_call(b: &[u8]) -> Result<Call, BadCall>
     ensures { result ≡ sized write_size b.now (write_call b.now) }
 {
-    if b.len() == WRITE_SIZE {
-        return Decoded::Whole(Call::Write {
-            owner: wide(b[1]),
-            seat: wide(b[2]),
-            item: be16(b, 3),
-            value: be64(b, 5),
-        });
-    }
-    Decoded::Misfit
+    let [_, owner, seat, i1, i0, v7, v6, v5, v4, v3, v2, v1, v0] = exactly::<WRITE_SIZE>(b)?;
+    Ok(Call::Write {
+        owner: u64::from(owner),
+        seat: u64::from(seat),
+        item: two(i1, i0),
+        value: u64::from_be_bytes([v7, v6, v5, v4, v3, v2, v1, v0]),
+    })
 }
 
-fn advance_call(b: &[u8]) -> Decoded
-    ensures { result ≡ sized seat_size b.now (advance_call b.now) }
+// The owner and the seat that an Advance and an Abandon name.
+fn seat_of(b: &[u8]) -> Result<(u64, u64), BadCall>
+    ensures { result ≡ sized seat_size b.now (seat_of b.now) }
 {
-    if b.len() == SEAT_SIZE {
-        return Decoded::Whole(Call::Advance {
-            owner: wide(b[1]),
-            seat: wide(b[2]),
-        });
-    }
-    Decoded::Misfit
+    let [_, owner, seat] = exactly::<SEAT_SIZE>(b)?;
+    Ok((u64::from(owner), u64::from(seat)))
 }
 
-fn abandon_call(b: &[u8]) -> Decoded
-    ensures { result ≡ sized seat_size b.now (abandon_call b.now) }
+// A number of two bytes.
+fn two(hi: u8, lo: u8) -> u64
+    ensures { result ≡ hi * byte_span + lo }
 {
-    if b.len() == SEAT_SIZE {
-        return Decoded::Whole(Call::Abandon {
-            owner: wide(b[1]),
-            seat: wide(b[2]),
-        });
-    }
-    Decoded::Misfit
+    u64::from(u16::from_be_bytes([hi, lo]))
+}
+
+// A body of as many bytes as its kind has.
+fn exactly<const N: usize>(b: &[u8]) -> Result<[u8; N], BadCall>
+    ensures { result ≡ sized N b.now b.now }
+{
+    b.try_into().map_err(|_| BadCall::Misfit)
 }

@@ -106,7 +106,11 @@ fn feed(
         match t {
             Turn::Wait => return so_far(used, calls, records, end, false),
             Turn::Stop { len } => return so_far(used, calls, records, sum(end, len), true),
-            Turn::Said(taken, len, lent) => {
+            Turn::Said {
+                taken,
+                len,
+                records: lent,
+            } => {
                 used += taken;
                 calls += 1;
                 records = lent;

@@ -1,14 +1,14 @@
 -- Laws of runs of stores and of decimal digits. Assumes nothing.
-use Prim.Native.Nat.{ℕ, zero, suc, ◌+◌, ◌-◌, ◌/◌, ◌%◌, ◌≤◌, ◌<◌}
-use native.Mathlib.Omega.{arith}
-use native.Mathlib.Numerals.{add-one}
-use native.Mathlib.Nat.{add-suc, sub-eq-zero_of_le}
-use mathlib.Core.Path.{◌≡◌, refl, ap, sym, ◌∙◌}
-use mathlib.Core.List.{List, [], ◌∷◌, ◌++◌}
-use lib.ListN.{length, set, drop, get_or, drop_of_length-le}
-use lib.Seq.{sets, set_comm, drop-cons}
-use Rattle.text.specs.Text.{most_digits, width_in, width_of, digits, decimal, line, last_line}
-use Rattle.text.specs.Puts.{sets_append, sets_at, length_digits, width_next}
+use Rattle.std.specs.Prelude.{ℕ, zero, suc, ◌+◌, ◌-◌, ◌*◌, ◌/◌, ◌%◌, ◌^◌, ◌≤◌, ◌<◌, max, ◌≡◌, refl, Option, Some, None}
+use Rattle.std.specs.Prelude.{List, [], ◌∷◌, ◌++◌, length, take, drop, set}
+use Rattle.std.proofs.Common.{arith, add-one, ap, sym, ◌∙◌, append_assoc, length-append}
+use Rattle.std.proofs.Math.Nat.{pow-succ'}
+use Rattle.std.proofs.lemmas.List.Edits.{sets, sets-eq}
+use Rattle.std.proofs.lemmas.List.{set_comm}
+use Rattle.std.proofs.Math.Seq.{paste, take-length}
+use Rattle.text.specs.Text.{width_in, width_of, digits, decimal, line, last_line}
+use Rattle.text.specs.Puts.{sets_append, sets_at, length_digits, length-decimal, width_done, width_next}
+use Rattle.text.specs.Inner.{number_of, head_of, headed, Put}
 
 -- a store past a run may go first
 pub sets-set : (l : List ℕ) (i : ℕ) (xs : List ℕ) (j y : ℕ) → i + length xs ≤ j → set (sets l i xs) j y ≡ sets (set l j y) i xs
@@ -25,20 +25,29 @@ digits_last l at i n =
     ∙ ap (λ (k : ℕ). set (sets l at (digits i (n / 10))) (at + k) (48 + n % 10)) (sym (length_digits i (n / 10)))
     ∙ sym (sets_append l at (digits i (n / 10)) ((48 + n % 10) ∷ []))
 
--- one byte of a copy
-pub sets-drop : (l : List ℕ) (at i : ℕ) (s : List ℕ) → i < length s
-    → sets (set l (at + i) (get_or s i 0)) (at + (i + 1)) (drop (i + 1) s) ≡ sets l (at + i) (drop i s)
-sets-drop l at i s h = rw (add-one, drop-cons s i 0, add-suc)
+-- a run of bytes put over a part as long
+pub pasted : (l : List ℕ) (at : ℕ) (s : List ℕ) → at + length s ≤ length l → paste l at s (length s) ≡ sets l at s
+pasted l at s h = ap (λ (m : List ℕ). take at l ++ m ++ drop (at + length s) l) (take-length s) ∙ sym (sets-eq s l at h)
 
--- the count of digits, as the loop finds it
-pub width_end : (k n : ℕ) → most_digits ≤ k → width_in (most_digits - k) n ≡ 1
-unfolding width_in
-width_end k n h = rw (sub-eq-zero_of_le h)
+-- a power of ten is positive
+pow-pos : (k : ℕ) → 1 ≤ 10 ^ k
+pow-pos zero = omega arith
+pow-pos (suc k) = omega (arith, pow-succ' 10 k, pow-pos k)
 
-pub width_more : (k n : ℕ) → k < most_digits → 10 ≤ n → width_in (most_digits - k) n ≡ 1 + width_in (most_digits - (k + 1)) (n / 10)
-width_more k n h g =
-    let e : most_digits - k ≡ suc (most_digits - (k + 1)) = omega arith in
-    rw e (omega (arith, width_next (most_digits - (k + 1)) n g))
+-- the width by the logarithm
+pub width_log : (f k n : ℕ) → k ≤ f → 10 ^ k ≤ n → n < 10 * 10 ^ k → width_in f n ≡ k + 1
+width_log f zero n h a b = width_done f n (omega arith)
+width_log zero (suc k) n h a b = absurd (omega arith)
+width_log (suc f) (suc k) n h a b =
+    let p : 10 ^ suc k ≡ 10 * 10 ^ k = pow-succ' 10 k in
+    width_next f n (omega (arith, p, pow-pos k)) ∙ ap suc (width_log f k (n / 10) (omega arith) (omega (arith, p)) (omega (arith, p))) ∙ omega arith
+
+-- 0 has one digit, as 1 has
+pub width_least : (n k m : ℕ) → m ≡ max n 1 → k < 20 → 10 ^ k ≤ m → m < 10 * 10 ^ k → k + 1 ≡ width_of n
+unfolding width_of
+width_least zero k m e h a b =
+    sym (width_log 19 k 1 (omega arith) (omega arith) (omega arith)) ∙ width_done 19 1 (omega arith) ∙ sym (width_done 19 0 (omega arith))
+width_least (suc n) k m e h a b = sym (width_log 19 k (suc n) (omega arith) (omega arith) (omega arith))
 
 pub digits_back : (l : List ℕ) (at i n : ℕ) → 0 < i → sets (set l (at + (i - 1)) (48 + n % 10)) at (digits (i - 1) (n / 10)) ≡ sets l at (digits i n)
 digits_back l at zero n h = absurd (omega arith)
@@ -49,29 +58,42 @@ unfolding digits
 digits-none l at zero n h = refl
 digits-none l at (suc i) n h = absurd (omega arith)
 
-pub sets-none : (l : List ℕ) (j i : ℕ) (s : List ℕ) → length s ≤ i → l ≡ sets l j (drop i s)
-sets-none l j i s h = rw (drop_of_length-le s {i = i} h)
+pub length_number : (n end : ℕ) → length (number_of n end) ≡ width_of n + 1
+length_number n end = omega (arith, length-append (decimal n) (end ∷ []), length-decimal n)
 
-pub sets-one : (l : List ℕ) (i j : ℕ) (y : ℕ) (ys : List ℕ) → j ≡ i + 1 → sets (set l i y) j ys ≡ sets l i (y ∷ ys)
+sets-one : (l : List ℕ) (i j : ℕ) (y : ℕ) (ys : List ℕ) → j ≡ i + 1 → sets (set l i y) j ys ≡ sets l i (y ∷ ys)
 sets-one l i j y ys e = rw (e, add-one)
 
--- what `put_last` leaves
-pub last_put : (l : List ℕ) (at b x : ℕ) (w : List ℕ) → b ≡ width_of x
-    → set (sets (set (sets l at w) (at + length w) 32) (at + length w + 1) (digits b x)) (at + length w + 1 + b) 10 ≡ sets l at (last_line w x)
-unfolding last_line decimal
-last_put l at b x w e =
-    let p : ℕ = at + length w in
-    let number : List ℕ = digits (width_of x) x in
-    rw e (
-    sets_at (set (sets l at w) p 32) (p + 1) (p + 1 + width_of x) number (10 ∷ []) (omega (arith, length_digits (width_of x) x))
-    ∙ sets-one (sets l at w) p (p + 1) 32 (number ++ 10 ∷ []) refl
-    ∙ sets_at l at p w (32 ∷ (number ++ 10 ∷ [])) refl)
+-- a number's digits put, and the byte behind them
+pub number_put : {l m : List ℕ} {at k : ℕ} (n end : ℕ) → k ≡ width_of n → m ≡ sets l at (digits k n)
+    → Put l at (number_of n end) (at + k + 1) (set m (at + k) end)
+unfolding decimal
+number_put {l} {m} {at} {k} n end e f =
+    record {
+      end = omega (arith, length_number n end, e);
+      text = rw (f, e) (sets_at l at (at + width_of n) (digits (width_of n) n) (end ∷ []) (omega (arith, length_digits (width_of n) n)));
+    }
 
--- what `put_line` leaves
-pub line-put : (l : List ℕ) (at a n x : ℕ) (w : List ℕ) → a ≡ width_of n
-    → sets (set (sets l at (digits a n)) (at + a) 32) (at + a + 1) (last_line w x) ≡ sets l at (line n w x)
-unfolding line decimal
-line-put l at a n x w e =
-    rw e (
-    sets-one (sets l at (digits (width_of n) n)) (at + width_of n) (at + width_of n + 1) 32 (last_line w x) refl
-    ∙ sets_at l at (at + width_of n) (digits (width_of n) n) (32 ∷ last_line w x) (omega (arith, length_digits (width_of n) n)))
+-- a line in its pieces
+pub headed_is : (head : Option ℕ) (w : List ℕ) (x : ℕ) → headed head w x ≡ head_of head ++ (w ++ 32 ∷ number_of x 10)
+unfolding line last_line
+headed_is (Some n) w x = sym (append_assoc (decimal n) (32 ∷ []) (last_line w x))
+headed_is None w x = refl
+
+pub length_headed : (head : Option ℕ) (w : List ℕ) (x : ℕ) → length (headed head w x) ≡ length (head_of head) + length w + width_of x + 2
+length_headed head w x =
+    let rest : List ℕ = 32 ∷ number_of x 10 in
+    omega (arith, ap length (headed_is head w x), length-append (head_of head) (w ++ rest), length-append w rest, length_number x 10)
+
+-- its pieces put one behind another
+pub line_put : (head : Option ℕ) (w : List ℕ) (x : ℕ) {l a b c : List ℕ} {at p q e : ℕ}
+    → Put l at (head_of head) p a → Put a p w q b → Put (set b q 32) (q + 1) (number_of x 10) e c → c ≡ sets l at (headed head w x)
+line_put head w x {l} {a} {b} {c} {at} {p} {q} {e} f g h =
+    let rest : List ℕ = 32 ∷ number_of x 10 in
+    h.text
+    ∙ sets-one b q (q + 1) 32 (number_of x 10) refl
+    ∙ ap (λ (m : List ℕ). sets m q rest) g.text
+    ∙ sets_at a p q w rest g.end
+    ∙ ap (λ (m : List ℕ). sets m p (w ++ rest)) f.text
+    ∙ sets_at l at p (head_of head) (w ++ rest) f.end
+    ∙ ap (λ (t : List ℕ). sets l at t) (sym (headed_is head w x))

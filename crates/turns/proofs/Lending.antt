@@ -1,13 +1,10 @@
 -- Tables lent in part: what comes back stands before the rest, and what is lent next. Assumes nothing.
-use Prim.Native.Nat.{ℕ}
-use mathlib.Core.Path.{◌≡◌, refl, ap, sym, ◌∙◌}
-use mathlib.Core.List.{List, ◌++◌}
-use lib.ListN.{length, take, drop, take-append-drop}
+use Rattle.std.specs.Prelude.{ℕ, ◌≡◌, refl, List, ◌++◌, length, take, drop}
+use Rattle.std.proofs.Common.{ap, sym, ◌∙◌}
+use Rattle.std.proofs.lemmas.List.{take-append-drop}
 use Rattle.rules.specs.Tables.{Tables, Outcome, tables, answered}
 use Rattle.rules.specs.declared.Answer.{Answer}
-use Rattle.frames.specs.declared.Call.{Call}
-use Rattle.frames.specs.declared.Call.TheVariants.{Setup, Open, Read, Write, Advance, Abandon}
-use Rattle.turns.specs.Calls.{first_records, given_back, FirstOf, records_after}
+use Rattle.turns.specs.Calls.{first_records, given_back, FirstOf}
 
 -- a table that is only read comes back as it was
 pub unchanged : (n : ℕ) (l : List ℕ) → l ≡ take n l ++ drop n l
@@ -28,12 +25,3 @@ module _ (t : Tables) (n : ℕ) {i j : ℕ} (p : FirstOf n (length t.values) i) 
   given_back_lem rule {a} {v} {w} {s} e x y =
       let f : answered a (tables v w s) ≡ rule (first_records t n) = e ∙ ap rule lent_is in
       rw (x, y, p.rest t.values refl, q.rest t.words refl) (ap (λ (o : Outcome). answered o.answer (given_back t n o.tables)) f)
-
--- a call that is no Setup lends what was lent before
-pub lends_as_before : (c : Call) (records : ℕ) (a : Answer) → ((n s : ℕ) → c ≡ Setup n s → ⊥) → records ≡ records_after records c a
-lends_as_before (Setup n s) records a h = absurd (h n s refl)
-lends_as_before (Open o) records a h = refl
-lends_as_before (Read o s x) records a h = refl
-lends_as_before (Write o s x v) records a h = refl
-lends_as_before (Advance o s) records a h = refl
-lends_as_before (Abandon o s) records a h = refl

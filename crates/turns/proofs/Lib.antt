@@ -1,4 +1,3 @@
 -- Laws that more than one function's proof rests on.
-pub mod Copies
 pub mod Lending
 pub mod Turning

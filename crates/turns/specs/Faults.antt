@@ -1,6 +1,8 @@
 -- 'The tape and its program': what stops a tape, by its number, and the last line that tells it.
 use Rattle.std.specs.Prelude.{ℕ, List, ◌++◌}
 use Rattle.text.specs.Text.{bytes, decimal, last_line}
+use Rattle.frames.specs.declared.BadCall.{BadCall}
+use Rattle.frames.specs.declared.BadCall.TheVariants as bad
 use Rattle.turns.specs.declared.Fault.{Fault}
 use Rattle.turns.specs.declared.Fault.TheVariants.{NoVersion, CutShort, Misfit, Unknown}
 
@@ -22,6 +24,11 @@ fault_of NoVersion = no_version
 fault_of CutShort = cut_short
 fault_of Misfit = misfit
 fault_of Unknown = unknown_kind
+
+-- the fault of a body that is no call
+abbrev pub fault_for : BadCall → Fault
+fault_for bad.Unknown = Unknown
+fault_for bad.Misfit = Misfit
 
 -- the last line of a bad tape: the fault, and the offset of the version byte or of that call's length
 unfoldable pub stop_line : ℕ → ℕ → List ℕ

@@ -1,11 +1,9 @@
 -- What callers may rest on: what a turn takes of the tape, how long its line is, and how many records it lends. Assumes nothing.
-use Prim.Native.Nat.{ℕ, zero, suc, ◌+◌, ◌-◌, ◌*◌, ◌/◌, ◌≤◌, ◌<◌}
-use Rattle.std.proofs.Common.{arith, ap, subst, length-append}
-use Rattle.std.specs.Prelude.{Bool, true, false, cond, ◌≡◌, refl, ltb, leb, eqb, drop, get_or}
-use mathlib.Core.List.{List, [], ◌++◌}
-use Rattle.std.proofs.Math.ListN.{length, take, length-drop}
-use Rattle.std.proofs.Math.Seq.{length-take-le}
-use borrow.Author.Tests.{lt-ltb, le-ltb, eqb-true, leb-true, leb-false, ltb-true, ltb-false}
+use Rattle.std.specs.Prelude.{ℕ, zero, suc, ◌+◌, ◌-◌, ◌*◌, ◌/◌, ◌≤◌, ◌<◌, ◌≡◌, refl, Bool, true, false, cond, ltb, leb, eqb}
+use Rattle.std.specs.Prelude.{List, [], ◌++◌, length, take, drop, get_or, Result, Ok, Err}
+use Rattle.std.proofs.Common.{arith, ap, subst, length-append, lt-ltb, le-ltb}
+use Rattle.std.proofs.lemmas.List.{length-drop, length-take-le}
+use Rattle.std.proofs.lemmas.Bool.{eqb-true, leb-true, leb-false, ltb-true, ltb-false}
 use Rattle.text.specs.Text.{width_of, width_in, decimal, bytes, put_in}
 use Rattle.text.specs.Puts.{length-line, length_last, length-decimal}
 use Rattle.rules.specs.Layout.{most_records, plan_width}
@@ -13,13 +11,13 @@ use Rattle.rules.specs.Answers.{kind, number, ready}
 use Rattle.rules.specs.Tables.{Tables, answered}
 use Rattle.rules.specs.Calls as rule
 use Rattle.rules.specs.declared.Answer.{Answer}
-use Rattle.rules.specs.declared.Answer.TheVariants.{Ready, Seat, Value, Noted, Locked, Timed, Checked, Sealed, Stored, Done, Dropped, Refused, Aborted}
+use Rattle.rules.specs.declared.Answer.TheVariants.{Refused}
 use Rattle.rows.specs.Fine.{cond_ind}
-use Rattle.answers.specs.Spelling.{letters_of}
+use Rattle.answers.specs.Spelling.{letters_of, spells}
 use Rattle.frames.specs.declared.Call.{Call}
 use Rattle.frames.specs.declared.Call.TheVariants.{Setup, Open, Read, Write, Advance, Abandon}
-use Rattle.frames.specs.declared.Decoded.{Decoded}
-use Rattle.frames.specs.declared.Decoded.TheVariants.{Whole, Unknown, Misfit}
+use Rattle.frames.specs.declared.BadCall.{BadCall}
+use Rattle.frames.specs.declared.BadCall.TheVariants.{Unknown, Misfit}
 use Rattle.frames.specs.declared.Frame.{Frame}
 use Rattle.frames.specs.declared.Frame.TheVariants.{Nothing, Short, Body}
 use Rattle.frames.specs.Decode.{be16, length_size, frame_of, setup_size, open_size, read_size, write_size, seat_size, by_kind, decoded, plan_from}
@@ -29,10 +27,9 @@ use Rattle.turns.specs.Calls.{PlanFits, on_first, performed, records_after, setu
 use Rattle.turns.specs.Turns.{line_room, last_room, Turned, waits, stops, says, call_turn, body_turn, frame_turn, turn_of}
 
 -- A BODY THAT IS A CALL has two bytes or more, and a Setup's has its plan
-abbrev pub Fits : List ℕ → Decoded → Type 0
-Fits b (Whole c) = PlanFits c b × (2 ≤ length b)
-Fits b Unknown = Unit {0}
-Fits b Misfit = Unit {0}
+abbrev pub Fits : List ℕ → Result Call BadCall → Type 0
+Fits b (Ok c) = PlanFits c b × (2 ≤ length b)
+Fits b (Err e) = Unit {0}
 
 pub fits : (b : List ℕ) → Fits b (decoded b)
 unfolding decoded by_kind
@@ -46,7 +43,7 @@ fits b =
     cond_ind (Fits b) (eqb k advance_kind) (λ _. plain seat_size _ (omega arith) tt) (λ _.
     cond_ind (Fits b) (eqb k abandon_kind) (λ _. plain seat_size _ (omega arith) tt) (λ _. tt))))))) (λ _. tt)
   where
-    plain : (n : ℕ) (c : Call) → 2 ≤ n → PlanFits c b → Fits b (cond (eqb (length b) n) (Whole c) Misfit)
+    plain : (n : ℕ) (c : Call) → 2 ≤ n → PlanFits c b → Fits b (cond (eqb (length b) n) (Ok c) (Err Misfit))
     plain n c h p = cond_ind (Fits b) (eqb (length b) n) (λ e. (p, omega (arith, eqb-true (length b) n e))) (λ _. tt)
 
 -- A FRAME'S BODY lies within the tape; where there is none, the frame's end does not
@@ -116,21 +113,6 @@ pub width_small : (n : ℕ) → width_of n ≤ 20
 unfolding width_of
 width_small n = width_in_lem 19 n
 
-letters_few : (a : Answer) → length (letters_of a) ≤ 7
-letters_few (Ready x) = omega arith
-letters_few (Seat x) = omega arith
-letters_few (Value x) = omega arith
-letters_few (Noted x) = omega arith
-letters_few (Locked x) = omega arith
-letters_few (Timed x) = omega arith
-letters_few (Checked x) = omega arith
-letters_few (Sealed x) = omega arith
-letters_few (Stored x) = omega arith
-letters_few (Done x) = omega arith
-letters_few (Dropped x) = omega arith
-letters_few (Refused x) = omega arith
-letters_few (Aborted x) = omega arith
-
 pub stop_line_lem : (fault offset : ℕ) → width_of fault ≤ 2 → length (stop_line fault offset) ≤ last_room
 unfolding stop_line
 stop_line_lem fault offset h =
@@ -154,19 +136,19 @@ TurnFits records t (stops x) = Stops t x
 TurnFits records t (says x used records' t') = Says t x records used records'
 
 module _ (n offset records : ℕ) (t : Tables) (rest : List ℕ) where
-  turn_fits_body : (k : ℕ) (d : Decoded) → length_size + k ≤ length rest → Fits (take k (drop length_size rest)) d
+  turn_fits_body : (k : ℕ) (d : Result Call BadCall) → length_size + k ≤ length rest → Fits (take k (drop length_size rest)) d
       → TurnFits records rest (body_turn n offset records t (take k (drop length_size rest)) d)
   unfolding body_turn call_turn
-  turn_fits_body k Unknown h f = record { least = omega arith; fits = stop_line_lem unknown_kind offset (unfold width_of width_in in omega arith) }
-  turn_fits_body k Misfit h f = record { least = omega arith; fits = stop_line_lem misfit offset (unfold width_of width_in in omega arith) }
-  turn_fits_body k (Whole c) h f =
+  turn_fits_body k (Err Unknown) h f = record { least = omega arith; fits = stop_line_lem unknown_kind offset (unfold width_of width_in in omega arith) }
+  turn_fits_body k (Err Misfit) h f = record { least = omega arith; fits = stop_line_lem misfit offset (unfold width_of width_in in omega arith) }
+  turn_fits_body k (Ok c) h f =
       let b : List ℕ = take k (drop length_size rest) in
       let a : Answer = (performed records t c b).answer in
       let e : length b ≡ k = length-take-le k (drop length_size rest) (omega (arith, length-drop length_size rest)) in
       record {
         least = omega arith;
         within = omega arith;
-        fits = omega (arith, length-line n (letters_of a) (number a), letters_few a, width_small n, width_small (number a), f.1);
+        fits = omega (arith, length-line n (letters_of a) (number a), (spells a).short, width_small n, width_small (number a), f.1);
         few = records_few c b records t;
       }
 

@@ -1,13 +1,13 @@
 -- One turn at the rest of a tape: more bytes are wanted, the tape is stopped with a line, or a call is answered with a line.
-use Rattle.std.specs.Prelude.{ℕ, ◌+◌, List, [], length, take, drop}
+use Rattle.std.specs.Prelude.{ℕ, ◌+◌, List, [], length, take, drop, Result, Ok, Err}
 use Rattle.text.specs.Text.{line}
 use Rattle.rules.specs.Answers.{number}
 use Rattle.rules.specs.Tables.{Tables, Outcome}
 use Rattle.rules.specs.declared.Answer.{Answer}
 use Rattle.answers.specs.Spelling.{letters_of}
 use Rattle.frames.specs.declared.Call.{Call}
-use Rattle.frames.specs.declared.Decoded.{Decoded}
-use Rattle.frames.specs.declared.Decoded.TheVariants.{Whole, Unknown, Misfit}
+use Rattle.frames.specs.declared.BadCall.{BadCall}
+use Rattle.frames.specs.declared.BadCall.TheVariants.{Unknown, Misfit}
 use Rattle.frames.specs.declared.Frame.{Frame}
 use Rattle.frames.specs.declared.Frame.TheVariants.{Nothing, Short, Body}
 use Rattle.frames.specs.Decode.{length_size, frame_of, decoded}
@@ -40,10 +40,10 @@ call_turn n records t b c =
     says (line_of n o.answer) (length_size + length b) (records_after records c o.answer) o.tables
 
 -- the turn of a body b, whose length stands at the offset
-unfoldable pub body_turn : ℕ → ℕ → ℕ → Tables → List ℕ → Decoded → Turned
-body_turn n offset records t b Unknown = stops (stop_line unknown_kind offset)
-body_turn n offset records t b Misfit = stops (stop_line misfit offset)
-body_turn n offset records t b (Whole c) = call_turn n records t b c
+unfoldable pub body_turn : ℕ → ℕ → ℕ → Tables → List ℕ → Result Call BadCall → Turned
+body_turn n offset records t b (Err Unknown) = stops (stop_line unknown_kind offset)
+body_turn n offset records t b (Err Misfit) = stops (stop_line misfit offset)
+body_turn n offset records t b (Ok c) = call_turn n records t b c
 
 -- the turn at the rest of a tape
 unfoldable pub frame_turn : ℕ → ℕ → ℕ → Tables → List ℕ → Frame → Turned

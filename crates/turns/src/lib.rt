@@ -6,17 +6,17 @@ ghost use Rattle.text.specs.Text.{Appended};
 ghost use Rattle.rules.specs.Layout.{plan_width};
 ghost use Rattle.rules.specs.Lent.{lent, left, left_tables};
 ghost use Rattle.frames.specs.Decode.{decoded, plan_from, setup_size};
-ghost use Rattle.turns.specs.Faults.{fault_of, stop_line};
+ghost use Rattle.turns.specs.Faults.{fault_of, fault_for, stop_line};
 ghost use Rattle.turns.specs.Calls.{PlanFits, FirstOf, performed, records_after};
 ghost use Rattle.turns.specs.Turns.{line_of, call_turn, body_turn, turn_of};
 ghost use Rattle.turns.specs.Promises.{Taken};
 
-use frames::{Call, Decoded, Frame, LENGTH, PLAN_FROM, decode, split};
+use frames::{BadCall, Call, Frame, LENGTH, PLAN_FROM, decode, split};
 use rules::Answer;
 use seats::layout::{MOST_RECORDS, PLAN_WIDTH};
 
 // What stops a tape.
-#[derive(Clone, Copy)]
+#[derive(Clone, Copy, Debug, PartialEq, Eq)]
 pub enum Fault {
     NoVersion,
     CutShort,
@@ -24,15 +24,40 @@ pub enum Fault {
     Unknown,
 }
 
+impl From<BadCall> for Fault {
+    ghost from_gives = { λ bad r. r ≡ fault_for bad };
+
+    fn from(bad: BadCall) -> Fault {
+        match bad {
+            BadCall::Unknown => Fault::Unknown,
+            BadCall::Misfit => Fault::Misfit,
+        }
+    }
+}
+
 // One turn at the rest of a tape.
-#[derive(Clone, Copy)]
+#[derive(Clone, Copy, Debug, PartialEq, Eq)]
 pub enum Turn {
     // More bytes are wanted.
     Wait,
     // A call was answered: the bytes that it took, its line's length, and the records lent from now on.
-    Said(usize, usize, u64),
+    Said {
+        taken: usize,
+        len: usize,
+        records: u64,
+    },
     // The tape is stopped, with a line of this length.
-    Stop { len: usize },
+    Stop {
+        len: usize,
+    },
+}
+
+// Where a call stands: its number, the offset of its length, and the records that are lent.
+#[derive(Clone, Copy, Debug, PartialEq, Eq)]
+struct Place {
+    n: u64,
+    offset: u64,
+    records: u64,
 }
 
 // A call of k bytes prints at most LINE_ROOM * k bytes, and a last line LAST_ROOM.
@@ -41,9 +66,6 @@ pub const LINE_ROOM: usize = 13;
 pub const LAST_ROOM: usize = 40;
 
 const PLAN: usize = PLAN_WIDTH as usize;
-
-// The number of the word that a Setup which succeeds is answered with.
-const READY: u64 = 0;
 
 // What a Setup on the tape is refused for: too many records, and one that comes after another.
 const WRONG_SIZES: u64 = 1;
@@ -66,36 +88,27 @@ pub fn stop(out: &mut [u8], at: usize, fault: Fault, offset: u64) -> usize
 fn say(out: &mut [u8], at: usize, n: u64, a: Answer) -> usize
     ensures { Appended out.old at (line_of n a) result out.new }
 {
-    let spelled = answers::spell(a);
-    let letters = spelled.letters;
-    let len = spelled.len;
-    text::numbered(out, at, n, &letters[..len], answers::number_of(a))
+    text::numbered(out, at, n, answers::spell(a), answers::number_of(a))
 }
 
 // The sixteen shares and sixteen limits of a Setup's body.
-fn plan_of(b: &[u8]) -> [u64; 32]
+fn plan_of(b: &[u8]) -> [u64; PLAN]
     requires { length b.now ≡ setup_size }
     ensures { result ≡ take plan_width (drop plan_from b.now) }
 {
-    let mut plan = [0u64; PLAN];
-    let mut i = 0;
-    while i < PLAN {
-        plan[i] = b[PLAN_FROM + i] as u64;
-        i += 1;
-    }
-    plan
+    let bytes: [u8; PLAN] = b[PLAN_FROM..].try_into().unwrap();
+    bytes.map(u64::from)
 }
 
 // The first n places of a table, or all where it has fewer.
 fn first_of(n: u64, len: usize) -> usize
     ensures { FirstOf n len result }
 {
-    let k = n as usize;
-    if k < len { k } else { len }
+    len.min(n as usize)
 }
 
 // Setup, as the tape allows it: once, and of at most 1024 records.
-#[tactic(auto, using(crate::specs::Laws::setup_again_lem))]
+#[tactic(auto, using(crate::specs::Laws::setup_again_lem, crate::specs::Laws::setup_many))]
 fn set_up(
     count: u64,
     start: u64,
@@ -159,22 +172,18 @@ fn perform(
 fn records_after(c: Call, a: Answer, records: u64) -> u64
     ensures { result ≡ records_after records c a }
 {
-    let Call::Setup { count, start: _ } = c else {
-        return records;
-    };
-    if answers::kind_of(a) == READY {
-        count
-    } else {
-        records
+    match (c, a) {
+        (Call::Setup { count, .. }, Answer::Ready(_)) => count,
+        _ => records,
     }
 }
 
-// Answers call number n, whose body is b, and puts its line at `at`.
+// The three tables travel as slices and in no struct of `&mut`s: a clause names what such a struct leaves as `tables.exit.1.1.0.now`.
+// Answers the call at a place, whose body is b, and puts its line at `at`.
 fn call_turn(
     c: Call,
     b: &[u8],
-    n: u64,
-    records: u64,
+    place: Place,
     values: &mut [u64],
     words: &mut [u64],
     seats: &mut [u64],
@@ -182,38 +191,34 @@ fn call_turn(
     at: usize,
 ) -> Turn
     requires { PlanFits c b.now }
-    ensures { Taken (call_turn n records (lent values.old words.old seats.old) b.now c) (lent values.old words.old seats.old) out.old at
+    ensures { Taken (call_turn place.n place.records (lent values.old words.old seats.old) b.now c) (lent values.old words.old seats.old) out.old at
         result (left_tables values.new words.new seats.new) out.new }
 {
-    let a = perform(c, b, records, values, words, seats);
-    let len = say(out, at, n, a);
-    let lent = records_after(c, a, records);
-    Turn::Said(LENGTH + b.len(), len, lent)
+    let a = perform(c, b, place.records, values, words, seats);
+    Turn::Said {
+        taken: LENGTH + b.len(),
+        len: say(out, at, place.n, a),
+        records: records_after(c, a, place.records),
+    }
 }
 
 // Takes the turn of a body: a call, or a fault that stops the tape.
 fn body_turn(
     b: &[u8],
-    n: u64,
-    offset: u64,
-    records: u64,
+    place: Place,
     values: &mut [u64],
     words: &mut [u64],
     seats: &mut [u64],
     out: &mut [u8],
     at: usize,
 ) -> Turn
-    ensures { Taken (body_turn n offset records (lent values.old words.old seats.old) b.now (decoded b.now)) (lent values.old words.old seats.old) out.old at
-        result (left_tables values.new words.new seats.new) out.new }
+    ensures { Taken (body_turn place.n place.offset place.records (lent values.old words.old seats.old) b.now (decoded b.now))
+        (lent values.old words.old seats.old) out.old at result (left_tables values.new words.new seats.new) out.new }
 {
-    let d = decode(b);
-    match d {
-        Decoded::Whole(c) => call_turn(c, b, n, records, values, words, seats, out, at),
-        Decoded::Unknown => Turn::Stop {
-            len: stop(out, at, Fault::Unknown, offset),
-        },
-        Decoded::Misfit => Turn::Stop {
-            len: stop(out, at, Fault::Misfit, offset),
+    match decode(b) {
+        Ok(c) => call_turn(c, b, place, values, words, seats, out, at),
+        Err(bad) => Turn::Stop {
+            len: stop(out, at, Fault::from(bad), place.offset),
         },
     }
 }
@@ -233,20 +238,17 @@ pub fn take_turn(
     ensures { Taken (turn_of n offset records (lent values.old words.old seats.old) rest.now) (lent values.old words.old seats.old) out.old at
         result (left_tables values.new words.new seats.new) out.new }
 {
-    let f = split(rest);
-    match f {
-        Frame::Body(k) => body_turn(
-            &rest[LENGTH..LENGTH + k],
-            n,
-            offset,
-            records,
-            values,
-            words,
-            seats,
-            out,
-            at,
-        ),
-        Frame::Short => Turn::Wait,
-        Frame::Nothing => Turn::Wait,
-    }
+    let Frame::Body(k) = split(rest) else {
+        return Turn::Wait;
+    };
+    let place = Place { n, offset, records };
+    body_turn(
+        &rest[LENGTH..LENGTH + k],
+        place,
+        values,
+        words,
+        seats,
+        out,
+        at,
+    )
 }

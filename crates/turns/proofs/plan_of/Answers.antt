@@ -1,34 +1,29 @@
--- `turns::plan_of` meets its contract: the numbers before place i are the plan's. Assumes nothing.
-use Prim.Native.Nat.{◌+◌}
-use native.Mathlib.Omega.{arith}
-use mathlib.Core.Path.{refl, sym}
-use borrow.Author.Rules.{rules}
-use lib.ListN.{drop, length-set, length-drop}
-use lib.Seq.{get_or-drop}
-use Rattle.turns.proofs.Copies.{copied_more, copied_all}
+-- `turns::plan_of` meets its contract. Assumes nothing.
+use Rattle.std.proofs.Common.{rules, arith, ℕ, ◌-◌, ◌<◌, ◌≡◌, ap, sym, ◌∙◌, get_or, length, take, drop}
+use Rattle.std.proofs.lemmas.Grind.{same_number_lists}
+use Rattle.std.proofs.lemmas.Result.{MatchResult-at_ok}
+use Rattle.std.proofs.lemmas.List.{length-drop, length-take-le}
 use Rattle.rules.specs.Layout.{plan_width}
 use Rattle.frames.specs.Decode.{plan_from}
 use Rattle.turns.proofs.plan_of.Goals as goal
+use Rattle.turns.proofs.plan_of.Goals.{After-map}
 
-pub loop-i-init : goal.loop-i-init
-loop-i-init c = record { within = search rules; as_long = refl; same = refl }
+-- a number is its byte
+each : (c : After-map) (i : ℕ) → i < plan_width → get_or c.map.result i 0 ≡ get_or c.unwrap-bytes.result i 0
+each c i h = let called = (c.map.ensures.items.at i 0 0 h).2 in search rules
 
-pub overflow_cast-plan : goal.overflow_cast-plan
-overflow_cast-plan c = omega (arith, c.type_inv.b (plan_from + c.loop-i.i))
-
-pub loop-i-preserved : goal.loop-i-preserved
-loop-i-preserved c =
+bytes_are : (c : After-map) → c.unwrap-bytes.result ≡ take plan_width (drop plan_from c.args.b.now)
+bytes_are c =
     let b = c.args.b.now in
-    let L = c.loop-i in
-    record {
-      within = search rules;
-      as_long = simp length-set (omega arith);
-      same =
-          copied_more (drop plan_from b) L.plan L.i _ (omega (arith, length-drop plan_from b)) (omega arith) (sym (get_or-drop plan_from b L.i 0))
-          L.invariant.same;
-    }
+    let n : length b - plan_from ≡ plan_width = omega arith in
+    (MatchResult-at_ok _ _ _ c.unwrap-bytes.ensures c.try_into.ensures.1).same ∙ ap (λ (k : ℕ). take k (drop plan_from b)) n
 
 pub returns : goal.returns
 returns c =
-    let L = c.loop-i in
-    copied_all (drop plan_from c.args.b.now) L.plan plan_width L.i (omega arith) (omega arith) L.invariant.same
+    let k = (goal.at.returns c).After-map in
+    let rest = drop plan_from c.args.b.now in
+    let long : length c.unwrap-bytes.result ≡ plan_width =
+    ap length (bytes_are k) ∙ length-take-le plan_width rest (omega (arith, length-drop plan_from c.args.b.now))
+    in
+    same_number_lists c.map.result c.unwrap-bytes.result (c.map.ensures.items.long ∙ sym long) (λ i h. each k i (omega (arith, c.map.ensures.items.long)))
+    ∙ bytes_are k

@@ -1,20 +1,16 @@
 -- `turns::take_turn` meets its contract. Assumes nothing.
-use Prim.Native.Nat.{◌+◌, ◌≤◌}
-use mathlib.Core.Path.{◌≡◌, refl, sym, ◌∙◌}
-use native.Mathlib.Omega.{arith}
-use native.Mathlib.Nat.{add-sub_cancel_left}
-use lib.ListN.{length}
+use Rattle.std.proofs.Common.{◌+◌, ◌≤◌, ◌≡◌, arith, sym, ◌∙◌, length}
+use Rattle.std.proofs.Math.Nat.{add-sub_cancel_left}
 use Rattle.frames.specs.declared.Frame.TheVariants.{Body}
 use Rattle.frames.specs.Decode.{length_size, frame_of}
 use Rattle.turns.specs.Turns.{turn_of, frame_turn}
-use Rattle.turns.specs.Laws.{put-nothing}
-use Rattle.turns.proofs.Turning.{body_inside}
+use Rattle.turns.proofs.Turning.{body_inside, waits_for}
 use Rattle.turns.proofs.take_turn.Goals as goal
 use Rattle.turns.proofs.take_turn.Goals.{In-Body}
 
 -- WHERE THERE IS A BODY: it lies within the rest
 frame_is : (c : In-Body) → frame_of c.args.rest.now ≡ Body c.in-Body.k
-frame_is c = sym c.split-f.ensures ∙ c.in-Body.is
+frame_is c = sym c.split.ensures ∙ c.in-Body.is
 
 body_within : (c : In-Body) → length_size + c.in-Body.k ≤ length c.args.rest.now
 body_within c = body_inside _ _ (frame_is c)
@@ -25,18 +21,12 @@ overflow_add-k c = omega (arith, body_within (goal.at.overflow_add-k c).In-Body,
 pub slice_bounds-body_turn-end : goal.slice_bounds-body_turn-end
 slice_bounds-body_turn-end c = omega (arith, body_within (goal.at.slice_bounds-body_turn-end c).In-Body)
 
-pub returns-in-Body : goal.returns-in-Body
+pub returns : goal.returns
 unfolding turn_of frame_turn
-returns-in-Body c =
-    rw (frame_is (goal.at.returns-in-Body c).In-Body) (rw (add-sub_cancel_left length_size c.in-Body.k) at c.body_turn.ensures)
+returns c =
+    rw (frame_is (goal.at.returns c).In-Body) (rw (add-sub_cancel_left length_size c.in-Body.k) at c.body_turn.ensures)
 
 -- WHERE THERE IS NONE
-pub returns-in-Short : goal.returns-in-Short
-unfolding turn_of frame_turn
-returns-in-Short c =
-    rw (sym c.split-f.ensures ∙ c.in-Short.is) record { turn = refl; tables = refl; text = put-nothing _ _ }
-
-pub returns-in-Nothing : goal.returns-in-Nothing
-unfolding turn_of frame_turn
-returns-in-Nothing c =
-    rw (sym c.split-f.ensures ∙ c.in-Nothing.is) record { turn = refl; tables = refl; text = put-nothing _ _ }
+pub returns-in_default : goal.returns-in_default
+unfolding turn_of
+returns-in_default c = rw (sym c.split.ensures) (waits_for _ _ _ _ c.split.result c.in_default.not-Body)

@@ -1,9 +1,0 @@
--- `frames::setup_call` meets its contract. Assumes nothing.
-use borrow.Author.Tests.{eq-eqb, ne_eqb}
-use Rattle.frames.proofs.setup_call.Goals as goal
-
-pub returns-then-b-eq-SETUP_SIZE : goal.returns-then-b-eq-SETUP_SIZE
-returns-then-b-eq-SETUP_SIZE c = simp (eq-eqb _ _ c.if-b-eq-SETUP_SIZE.true) (cc)
-
-pub returns : goal.returns
-returns c = simp (ne_eqb _ _ c.if-b-eq-SETUP_SIZE.false)
