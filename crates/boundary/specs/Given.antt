@@ -10,13 +10,17 @@ pub record Given (o : Outcome) (told carried : ℕ) (t' : Tables) : Type 0 where
   pub number_is : carried ≡ number o.answer
   pub tables_are : t' ≡ o.tables
 
+-- an answer, as it is told
+pub record Told (a : Answer) (told carried : ℕ) : Type 0 where
+  pub kind_is : told ≡ kind a
+  pub number_is : carried ≡ number a
+
 -- from what a call ensures
-pub given_of : {o : Outcome} {a : Answer} {told carried : ℕ} {t' : Tables} → answered a t' ≡ o → told ≡ kind a → carried ≡ number a
-    → Given o told carried t'
-given_of e k n =
+pub given_of : {o : Outcome} {a : Answer} {told carried : ℕ} {t' : Tables} → answered a t' ≡ o → Told a told carried → Given o told carried t'
+given_of e r =
     record {
-      kind_is = k ∙ ap (λ (x : Outcome). kind x.answer) e;
-      number_is = n ∙ ap (λ (x : Outcome). number x.answer) e;
+      kind_is = r.kind_is ∙ ap (λ (x : Outcome). kind x.answer) e;
+      number_is = r.number_is ∙ ap (λ (x : Outcome). number x.answer) e;
       tables_are = ap (λ (x : Outcome). x.tables) e;
     }
 

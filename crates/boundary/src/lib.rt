@@ -5,7 +5,17 @@ ghost use Rattle.rules.specs.Lent.{lent, left_tables};
 ghost use Rattle.rules.specs.Plan.{setup, open_seat};
 ghost use Rattle.rules.specs.Work.{read, write};
 ghost use Rattle.rules.specs.Advance.{advance, abandon};
-ghost use Rattle.boundary.specs.Given.{Given};
+ghost use Rattle.boundary.specs.Given.{Given, Told};
+
+use rules::Answer;
+
+// The number of the answer's word; the number that it carries goes into `number`.
+fn told(a: Answer, number: &mut u64) -> u64
+    ensures { Told a result number.new }
+{
+    *number = answers::number_of(a);
+    answers::kind_of(a)
+}
 
 #[unsafe(no_mangle)]
 pub extern "C" fn ponsevran_setup(
@@ -18,9 +28,7 @@ pub extern "C" fn ponsevran_setup(
 ) -> u64
     ensures { Given (setup (lent values.now words.old seats.old) start plan.now) result number.new (left_tables values.now words.new seats.new) }
 {
-    let a = plan::setup(values, words, seats, start, plan);
-    *number = answers::number_of(a);
-    answers::kind_of(a)
+    told(plan::setup(values, words, seats, start, plan), number)
 }
 
 #[unsafe(no_mangle)]
@@ -33,9 +41,7 @@ pub extern "C" fn ponsevran_open(
 ) -> u64
     ensures { Given (open_seat (lent values.now words.now seats.old) owner) result number.new (left_tables values.now words.now seats.new) }
 {
-    let a = plan::open(values, words, seats, owner);
-    *number = answers::number_of(a);
-    answers::kind_of(a)
+    told(plan::open(values, words, seats, owner), number)
 }
 
 #[unsafe(no_mangle)]
@@ -50,9 +56,7 @@ pub extern "C" fn ponsevran_read(
 ) -> u64
     ensures { Given (read (lent values.now words.now seats.old) owner seat item) result number.new (left_tables values.now words.now seats.new) }
 {
-    let a = work::read(values, words, seats, owner, seat, item);
-    *number = answers::number_of(a);
-    answers::kind_of(a)
+    told(work::read(values, words, seats, owner, seat, item), number)
 }
 
 #[unsafe(no_mangle)]
@@ -68,9 +72,10 @@ pub extern "C" fn ponsevran_write(
 ) -> u64
     ensures { Given (write (lent values.now words.now seats.old) owner seat item value) result number.new (left_tables values.now words.now seats.new) }
 {
-    let a = work::write(values, words, seats, owner, seat, item, value);
-    *number = answers::number_of(a);
-    answers::kind_of(a)
+    told(
+        work::write(values, words, seats, owner, seat, item, value),
+        number,
+    )
 }
 
 #[unsafe(no_mangle)]
@@ -84,9 +89,7 @@ pub extern "C" fn ponsevran_advance(
 ) -> u64
     ensures { Given (advance (lent values.old words.old seats.old) owner seat) result number.new (left_tables values.new words.new seats.new) }
 {
-    let a = commit::advance(values, words, seats, owner, seat);
-    *number = answers::number_of(a);
-    answers::kind_of(a)
+    told(commit::advance(values, words, seats, owner, seat), number)
 }
 
 #[unsafe(no_mangle)]
@@ -100,7 +103,5 @@ pub extern "C" fn ponsevran_abandon(
 ) -> u64
     ensures { Given (abandon (lent values.now words.old seats.old) owner seat) result number.new (left_tables values.now words.new seats.new) }
 {
-    let a = commit::abandon(values, words, seats, owner, seat);
-    *number = answers::number_of(a);
-    answers::kind_of(a)
+    told(commit::abandon(values, words, seats, owner, seat), number)
 }

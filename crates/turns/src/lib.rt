@@ -12,7 +12,7 @@ ghost use Rattle.turns.specs.Turns.{line_of, call_turn, body_turn, turn_of};
 ghost use Rattle.turns.specs.Promises.{Taken};
 
 use frames::{BadCall, Call, Frame, LENGTH, PLAN_FROM, decode, split};
-use rules::Answer;
+use rules::{Answer, Refusal};
 use seats::layout::{MOST_RECORDS, PLAN_WIDTH};
 
 // What stops a tape.
@@ -67,11 +67,6 @@ pub const LAST_ROOM: usize = 40;
 
 const PLAN: usize = PLAN_WIDTH as usize;
 
-// What a Setup on the tape is refused for: too many records, and one that comes after another.
-const WRONG_SIZES: u64 = 1;
-
-const SETUP_AGAIN: u64 = 35;
-
 // The last line of a bad tape: its fault, and an offset.
 pub fn stop(out: &mut [u8], at: usize, fault: Fault, offset: u64) -> usize
     ensures { Appended out.old at (stop_line (fault_of fault) offset) result out.new }
@@ -122,10 +117,10 @@ fn set_up(
     ensures { left result values.now words.new seats.new ≡ performed records (lent values.now words.old seats.old) (Call.Setup count start) b.now }
 {
     if 0 < records {
-        return Answer::Refused(SETUP_AGAIN);
+        return Answer::from(Refusal::SetupAgain);
     }
     if MOST_RECORDS < count {
-        return Answer::Refused(WRONG_SIZES);
+        return Answer::from(Refusal::WrongSizes);
     }
     let plan = plan_of(b);
     let n = first_of(count, values.len());

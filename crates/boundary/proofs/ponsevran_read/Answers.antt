@@ -3,5 +3,4 @@ use Rattle.boundary.specs.Given.{given_of}
 use Rattle.boundary.proofs.ponsevran_read.Goals as goal
 
 pub returns : goal.returns
-returns c =
-    given_of c.read-a.ensures c.kind_of.ensures c.number_of.ensures
+returns c = given_of c.read.ensures c.told.ensures

@@ -3,5 +3,4 @@ use Rattle.boundary.specs.Given.{given_of}
 use Rattle.boundary.proofs.ponsevran_setup.Goals as goal
 
 pub returns : goal.returns
-returns c =
-    given_of c.setup-a.ensures c.kind_of.ensures c.number_of.ensures
+returns c = given_of c.setup.ensures c.told.ensures
