@@ -12,7 +12,7 @@ use Rattle.std.proofs.lemmas.Iterator.{YieldsList-from_range, first_from_Range}
 use Rattle.std.proofs.lemmas.Iterator.Search.{any_from_yields_List}
 use Rattle.rules.specs.Tests.{scan, first, any}
 use Rattle.rows.specs.Search.{first_is, none_any}
-use Rattle.seats.specs.Search.{found, found_by}
+use Rattle.seats.specs.Search.{found}
 
 -- one of the numbers from i on passes
 any_from : (p : ℕ → Bool) (m i : ℕ) → list_any p (range_with_len i m) ≡ ltb (scan p i m) (i + m)

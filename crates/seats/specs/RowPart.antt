@@ -1,6 +1,6 @@
 -- A seat's row as a part of a table of any length: lent, changed at one place, freed.
 use Rattle.std.specs.Prelude.{ℕ, zero, suc, ◌+◌, ◌-◌, ◌<◌, ◌≤◌, min, ◌≡◌, replicate, List, [], ◌∷◌, ◌++◌}
-use Rattle.std.proofs.Common.{◌∙◌, zero-add, suc-add, add-one, drop_of_length-le, take-append-drop, length-take-le, take_all, append-nil, arith}
+use Rattle.std.proofs.Common.{◌∙◌, zero-add, suc-add, add-one, drop_of_length-le, take-append-drop, length-take-le, take_all, arith}
 use Rattle.std.proofs.Math.Path.{refl, sym, ap}
 use Rattle.std.proofs.Math.Decide.{dec_le}
 use Rattle.std.proofs.lemmas.List.Edits.{fill_more}

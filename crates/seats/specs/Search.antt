@@ -1,6 +1,6 @@
 -- A search among the numbers below n, and what is known where it has found one.
 use Rattle.std.specs.Prelude.{ℕ, ◌<◌, ◌≤◌, ◌≡◌, refl, Bool, true, false, cond, Option, Some, None, is_some}
-use Rattle.std.proofs.Common.{sym, ap, ◌∙◌, true≢false, ltb-true, ltb-false}
+use Rattle.std.proofs.Common.{sym, ap, true≢false, ltb-true, ltb-false}
 use Rattle.rules.specs.Tests.{first, any}
 
 -- the first that passes, where one does

@@ -1,10 +1,10 @@
 -- `seats::admit_to_row` meets its contract. Assumes nothing.
 use Rattle.std.specs.Prelude.{Ok, ℕ, ◌≡◌, List, [], ◌∷◌, ltb, Bool, false}
-use Rattle.std.proofs.Common.{◌∙◌, ap, arith, eq-eqb, le-ltb, lt-ltb, ne_eqb}
+use Rattle.std.proofs.Common.{◌∙◌, ap, arith, eq-eqb, le-ltb, ne_eqb}
 use Rattle.rules.specs.Layout.{phase}
 use Rattle.rules.specs.Tests.{one_of, first_of}
 use Rattle.rules.specs.Refusals.{damaged, foreign, row_refusal}
-use Rattle.seats.specs.Heads.{head_is, admission, numbered}
+use Rattle.seats.specs.Heads.{head_is, admission}
 use Rattle.seats.proofs.admit_to_row.Goals as goal
 use Rattle.seats.proofs.admit_to_row.Goals.{Else-head-owner}
 
