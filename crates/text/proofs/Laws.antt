@@ -1,11 +1,11 @@
 -- Laws of runs of stores and of decimal digits. Assumes nothing.
 use Rattle.std.specs.Prelude.{ℕ, zero, suc, ◌+◌, ◌-◌, ◌*◌, ◌/◌, ◌%◌, ◌^◌, ◌≤◌, ◌<◌, max, ◌≡◌, refl, Option, Some, None}
 use Rattle.std.specs.Prelude.{List, [], ◌∷◌, ◌++◌, length, take, drop, set}
-use Rattle.std.proofs.Common.{arith, add-one, ap, sym, ◌∙◌, append_assoc, length-append}
+use Rattle.std.proofs.Common.{arith, ap, sym, ◌∙◌, append_assoc, length-append}
 use Rattle.std.proofs.Math.Nat.{pow-succ'}
 use Rattle.std.proofs.lemmas.List.Edits.{sets, sets-eq}
 use Rattle.std.proofs.lemmas.List.{set_comm}
-use Rattle.std.proofs.Math.Seq.{paste, take-length}
+use Rattle.std.proofs.Math.Seq.{paste, take-length, length-sets}
 use Rattle.text.specs.Text.{width_in, width_of, digits, decimal, line, last_line}
 use Rattle.text.specs.Puts.{sets_append, sets_at, length_digits, length-decimal, width_done, width_next}
 use Rattle.text.specs.Inner.{number_of, head_of, headed, Put}
@@ -61,18 +61,14 @@ digits-none l at (suc i) n h = absurd (omega arith)
 pub length_number : (n end : ℕ) → length (number_of n end) ≡ width_of n + 1
 length_number n end = omega (arith, length-append (decimal n) (end ∷ []), length-decimal n)
 
-sets-one : (l : List ℕ) (i j : ℕ) (y : ℕ) (ys : List ℕ) → j ≡ i + 1 → sets (set l i y) j ys ≡ sets l i (y ∷ ys)
-sets-one l i j y ys e = rw (e, add-one)
+-- a text put keeps the buffer's length
+pub put_as : {l m xs : List ℕ} {i j : ℕ} → j ≡ i + length xs → m ≡ sets l i xs → Put l i xs j m
+put_as {l} {m} {xs} {i} e t = record { end = e; text = t; long = ap length t ∙ length-sets l i xs }
 
--- a number's digits put, and the byte behind them
-pub number_put : {l m : List ℕ} {at k : ℕ} (n end : ℕ) → k ≡ width_of n → m ≡ sets l at (digits k n)
-    → Put l at (number_of n end) (at + k + 1) (set m (at + k) end)
-unfolding decimal
-number_put {l} {m} {at} {k} n end e f =
-    record {
-      end = omega (arith, length_number n end, e);
-      text = rw (f, e) (sets_at l at (at + width_of n) (digits (width_of n) n) (end ∷ []) (omega (arith, length_digits (width_of n) n)));
-    }
+-- one text put behind another
+pub put_both : {l m n xs ys : List ℕ} {i j k : ℕ} → Put l i xs j m → Put m j ys k n → Put l i (xs ++ ys) k n
+put_both {l} {m} {n} {xs} {ys} {i} {j} {k} p q =
+    put_as (omega (arith, p.end, q.end, length-append xs ys)) (q.text ∙ ap (λ (b : List ℕ). sets b j ys) p.text ∙ sets_at l i j xs ys p.end)
 
 -- a line in its pieces
 pub headed_is : (head : Option ℕ) (w : List ℕ) (x : ℕ) → headed head w x ≡ head_of head ++ (w ++ 32 ∷ number_of x 10)
@@ -86,14 +82,8 @@ length_headed head w x =
     omega (arith, ap length (headed_is head w x), length-append (head_of head) (w ++ rest), length-append w rest, length_number x 10)
 
 -- its pieces put one behind another
-pub line_put : (head : Option ℕ) (w : List ℕ) (x : ℕ) {l a b c : List ℕ} {at p q e : ℕ}
-    → Put l at (head_of head) p a → Put a p w q b → Put (set b q 32) (q + 1) (number_of x 10) e c → c ≡ sets l at (headed head w x)
-line_put head w x {l} {a} {b} {c} {at} {p} {q} {e} f g h =
-    let rest : List ℕ = 32 ∷ number_of x 10 in
-    h.text
-    ∙ sets-one b q (q + 1) 32 (number_of x 10) refl
-    ∙ ap (λ (m : List ℕ). sets m q rest) g.text
-    ∙ sets_at a p q w rest g.end
-    ∙ ap (λ (m : List ℕ). sets m p (w ++ rest)) f.text
-    ∙ sets_at l at p (head_of head) (w ++ rest) f.end
-    ∙ ap (λ (t : List ℕ). sets l at t) (sym (headed_is head w x))
+pub line_put : (head : Option ℕ) (w : List ℕ) (x : ℕ) {l a b c d e : List ℕ} {at p q r s t : ℕ}
+    → Put l at (head_of head) p a → Put a p w q b → Put b q (32 ∷ []) r c → Put c r (decimal x) s d → Put d s (10 ∷ []) t e
+    → e ≡ sets l at (headed head w x)
+line_put head w x {l} {at = at} f g h i j =
+    (put_both f (put_both g (put_both h (put_both i j)))).text ∙ ap (λ (t : List ℕ). sets l at t) (sym (headed_is head w x))

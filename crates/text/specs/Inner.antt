@@ -26,3 +26,4 @@ headed None w x = last_line w x
 pub record Put (out : List ℕ) (at : ℕ) (xs : List ℕ) (r : ℕ) (out' : List ℕ) : Type 0 where
   pub end : r ≡ at + length xs
   pub text : out' ≡ sets out at xs
+  pub long : length out' ≡ length out

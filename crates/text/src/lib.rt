@@ -2,10 +2,9 @@
 #![tactic(auto)]
 
 ghost use Rattle.std.specs.Prelude.{◌≡◌, ◌+◌, ◌≤◌, length, take};
-ghost use Rattle.std.proofs.lemmas.List.Edits.{sets};
-ghost use Rattle.text.specs.Text.{most_letters, digits, line, last_line, Appended};
+ghost use Rattle.text.specs.Text.{most_letters, width_of, decimal, line, last_line, Appended};
 ghost use Rattle.text.specs.Promises.{WidthIs};
-ghost use Rattle.text.specs.Inner.{number_of, head_of, headed, HeadWidth, Put};
+ghost use Rattle.text.specs.Inner.{head_of, headed, HeadWidth, Put};
 
 // How many letters of a word are written.
 const MOST_LETTERS: usize = 10;
@@ -27,47 +26,50 @@ fn head_width(head: Option<u64>) -> usize
     }
 }
 
-// Puts the last k digits of n at `at`.
-fn put_digits(out: &mut [u8], at: usize, n: u64, k: usize)
-    requires { at + k ≤ length out.old }
-    ensures { out.new ≡ sets out.old at (digits k n) }
-{
-    let mut rest = n;
-    for i in (0..k).rev() {
-        out[at + i] = b'0' + (rest % 10) as u8;
-        rest /= 10;
+// A line as it is put: the buffer, and where the next byte goes.
+#[derive(Drop)]
+struct Line<'a> {
+    out: &'a mut [u8],
+    at: usize,
+}
+
+impl Line<'_> {
+    // Puts the bytes of s.
+    fn bytes(&mut self, s: &[u8])
+        requires { self.old.at + length s.now ≤ length self.old.out.now }
+        ensures text { Put self.old.out.now self.old.at s.now self.new.at self.new.out.now }
+        ensures same_buffer { self.new.out.ghost_name ≡ self.old.out.ghost_name }
+    {
+        let end = self.at + s.len();
+        self.out[self.at..end].copy_from_slice(s);
+        self.at = end;
     }
-}
 
-// Puts the bytes of s at `at`. The result is where they end.
-fn put_bytes(out: &mut [u8], at: usize, s: &[u8]) -> usize
-    requires { at + length s.now ≤ length out.old }
-    ensures { Put out.old at s.now result out.new }
-{
-    let end = at + s.len();
-    out[at..end].copy_from_slice(s);
-    end
-}
+    // Puts a number in decimal.
+    fn number(&mut self, n: u64)
+        requires { self.old.at + width_of n ≤ length self.old.out.now }
+        ensures text { Put self.old.out.now self.old.at (decimal n) self.new.at self.new.out.now }
+        ensures same_buffer { self.new.out.ghost_name ≡ self.old.out.ghost_name }
+    {
+        let k = width(n);
+        let mut rest = n;
+        for i in (0..k).rev() {
+            self.out[self.at + i] = b'0' + (rest % 10) as u8;
+            rest /= 10;
+        }
+        self.at += k;
+    }
 
-// Puts a number and the byte that ends it at `at`. The result is where they end.
-fn put_number(out: &mut [u8], at: usize, n: u64, end: u8) -> usize
-    requires { at + length (number_of n end) ≤ length out.old }
-    ensures { Put out.old at (number_of n end) result out.new }
-{
-    let k = width(n);
-    put_digits(out, at, n, k);
-    out[at + k] = end;
-    at + k + 1
-}
-
-// Puts the number in front of a line, where it has one. The result is where it ends.
-fn put_head(out: &mut [u8], at: usize, head: Option<u64>) -> usize
-    requires { at + length (head_of head) ≤ length out.old }
-    ensures { Put out.old at (head_of head) result out.new }
-{
-    match head {
-        Some(n) => put_number(out, at, n, b' '),
-        None => at,
+    // Puts a number and a space, where the line has a number in front.
+    fn head(&mut self, head: Option<u64>)
+        requires { self.old.at + length (head_of head) ≤ length self.old.out.now }
+        ensures text { Put self.old.out.now self.old.at (head_of head) self.new.at self.new.out.now }
+        ensures same_buffer { self.new.out.ghost_name ≡ self.old.out.ghost_name }
+    {
+        if let Some(n) = head {
+            self.number(n);
+            self.bytes(b" ");
+        }
     }
 }
 
@@ -81,10 +83,12 @@ fn append(out: &mut [u8], at: usize, head: Option<u64>, letters: &[u8], x: u64) 
     if at > out.len() || len > out.len() - at {
         return len;
     }
-    let word_at = put_head(out, at, head);
-    let space = put_bytes(out, word_at, word);
-    out[space] = b' ';
-    put_number(out, space + 1, x, b'\n');
+    let mut line = Line { out, at };
+    line.head(head);
+    line.bytes(word);
+    line.bytes(b" ");
+    line.number(x);
+    line.bytes(b"\n");
     len
 }
 

@@ -128,7 +128,8 @@ fn set_up(
     plan::setup(&values[..n], &mut words[..m], seats, start, &plan)
 }
 
-// One call on the program's tables, of which it is lent what Setup gave.
+// One call on the program's tables, of which it is lent what Setup gave. They are three slices, here and below, and no struct of `&mut`s:
+// that was tried, and the proof did not close. Nothing is known of a field's elements once it was lent on to be read alone.
 fn perform(
     c: Call,
     b: &[u8],
@@ -173,7 +174,6 @@ fn records_after(c: Call, a: Answer, records: u64) -> u64
     }
 }
 
-// The three tables travel as slices and in no struct of `&mut`s: a clause names what such a struct leaves as `tables.exit.1.1.0.now`.
 // Answers the call at a place, whose body is b, and puts its line at `at`.
 fn call_turn(
     c: Call,

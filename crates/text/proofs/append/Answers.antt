@@ -1,10 +1,10 @@
 -- `text::append` meets its contract. Assumes nothing.
-use Rattle.std.proofs.Common.{◌<◌, ◌+◌, ◌≡◌, arith, sym, ◌∙◌, length, take, length-set}
+use Rattle.std.proofs.Common.{◌<◌, ◌+◌, ◌≡◌, rules, arith, sym, ◌∙◌, length, take}
 use Rattle.std.proofs.lemmas.List.{take_min}
 use Rattle.text.specs.Text.{most_letters}
-use Rattle.text.specs.Puts.{put-fits, put-not}
+use Rattle.text.specs.Puts.{length-decimal, put-fits, put-not}
 use Rattle.text.specs.Inner.{headed}
-use Rattle.text.proofs.Laws.{length_number, length_headed, line_put}
+use Rattle.text.proofs.Laws.{length_headed, line_put}
 use Rattle.text.proofs.append.Goals as goal
 use Rattle.text.proofs.append.Goals.{After-width, then-at-out-via-then-at-out, then-at-out-via-else-at-out+then-len-out}
 
@@ -29,27 +29,28 @@ returns-then-at-out c =
     ]
     in rw (word_is w) record { size = as_long w; text = put-not a.out.now a.at _ past }
 
-pub put_head-word_at-requires : goal.put_head-word_at-requires
-put_head-word_at-requires c = omega (arith, c.head_width.ensures.is_length)
+pub bytes-requires : goal.bytes-requires
+bytes-requires c = omega (arith, c.head_width.ensures.is_length, c.head.ensures.text)
 
-pub put_bytes-space-requires : goal.put_bytes-space-requires
-put_bytes-space-requires c = omega (arith, c.head_width.ensures.is_length, c.put_head-word_at.ensures.end)
+pub bytes-requires-2 : goal.bytes-requires-2
+bytes-requires-2 c = omega (arith, c.head_width.ensures.is_length, c.head.ensures.text, c.bytes.ensures.text)
 
-pub bounds-out-space : goal.bounds-out-space
-bounds-out-space c = omega (arith, c.head_width.ensures.is_length, c.put_head-word_at.ensures.end, c.put_bytes-space.ensures.end)
+pub number-requires : goal.number-requires
+number-requires c =
+    omega (arith, c.head_width.ensures.is_length, c.width.ensures.is_width, c.head.ensures.text, c.bytes.ensures.text, c.bytes-2.ensures.text)
 
-pub overflow_add-space : goal.overflow_add-space
-overflow_add-space c = omega (arith, c.well_formed, c.head_width.ensures.is_length, c.put_head-word_at.ensures.end, c.put_bytes-space.ensures.end)
-
-pub put_number-requires : goal.put_number-requires
-put_number-requires c =
-    let x = length_number c.args.x 10 in
-    simp length-set
-    (omega (arith, c.head_width.ensures.is_length, c.put_head-word_at.ensures.end, c.put_bytes-space.ensures.end, c.width.ensures.is_width, x))
+pub bytes-requires-3 : goal.bytes-requires-3
+bytes-requires-3 c =
+    let head = c.head.ensures.text in
+    let word = c.bytes.ensures.text in
+    let space = c.bytes-2.ensures.text in
+    let x = c.number.ensures.text in
+    omega (arith, c.head_width.ensures.is_length, c.width.ensures.is_width, head, word, space, x, length-decimal c.args.x)
 
 pub returns : goal.returns
 returns c =
     let a = c.args in
     let w = (goal.at.returns c).After-width in
-    let text = line_put a.head (take c.min.result a.letters.now) a.x c.put_head-word_at.ensures c.put_bytes-space.ensures c.put_number.ensures in
-    rw (word_is w) record { size = as_long w; text = text ∙ put-fits a.out.now a.at _ (omega (arith, as_long w)) }
+    let word = take c.min.result a.letters.now in
+    let text = line_put a.head word a.x c.head.ensures.text c.bytes.ensures.text c.bytes-2.ensures.text c.number.ensures.text c.bytes-3.ensures.text in
+    rw (word_is w) record { size = as_long w; text = search rules ∙ text ∙ put-fits a.out.now a.at _ (omega (arith, as_long w)) }
