@@ -1,11 +1,5 @@
 -- The program's lengths and numbers make every step whole, and the next one too. Assumes nothing.
-use Prim.Native.Nat.{ℕ, ◌-◌, ◌≤◌, ◌<◌}
-use native.Mathlib.Omega.{arith}
-use mathlib.Core.Path.{◌≡◌, refl, ap, ◌∙◌}
-use mathlib.Core.Bool.{false}
-use mathlib.Core.List.{List, ◌++◌}
-use lib.ListN.{length, take, drop, length-drop, length-append}
-use lib.Seq.{length-take-le}
+use Rattle.std.proofs.Common.{ℕ, ◌-◌, ◌≤◌, ◌<◌, arith, ◌≡◌, refl, ap, ◌∙◌, false, List, ◌++◌, length, take, drop, length-drop, length-append, length-take-le}
 use Rattle.rules.specs.Tables.{Tables}
 use Rattle.tape.specs.Lines.{opening}
 use Rattle.tape.specs.Promises.{part}

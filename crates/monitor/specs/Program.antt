@@ -1,10 +1,10 @@
 -- What the program lends, and what its steps keep to.
-use Rattle.std.specs.Prelude.{ℕ, ◌+◌, ◌-◌, ◌*◌, ◌/◌, ◌≤◌, ◌<◌, ◌≡◌, false, List, length, take}
+use Rattle.std.specs.Prelude.{ℕ, ◌+◌, ◌-◌, ◌*◌, ◌/◌, ◌≤◌, ◌<◌, ◌≡◌, false, List, Result, IfOk, length, take}
 use Rattle.rules.specs.Layout.{most_records}
 use Rattle.rules.specs.Tables.{Tables}
 use Rattle.frames.specs.Decode.{longest}
 use Rattle.tape.specs.Promises.{at_front, part, far_off, room_for}
-use Rattle.monitor.specs.declared.Moved.{Moved}
+use Rattle.monitor.specs.declared.Failure.{Failure}
 use Rattle.flow.specs.declared.Flow.{Flow}
 use Rattle.flow.specs.Parts.{stepped}
 use Rattle.flow.specs.Promises.{stand_of, Went, closing_of}
@@ -41,10 +41,14 @@ pub record Asked (f : Flow) (buffer : List ℕ) (to : ℕ) (t : Tables) (out : L
   pub behind : f.waiting ≤ to
   pub within : to ≤ input_length
 
--- what was read stands behind the bytes that wait
-pub record Fetched (buffer : List ℕ) (waiting : ℕ) (r : Moved) (buffer' : List ℕ) : Type 0 where
-  pub behind : waiting ≤ r.to
-  pub within : r.to ≤ length buffer
+-- where what was read, behind the bytes that wait, ends
+pub record Lies (buffer : List ℕ) (waiting to : ℕ) : Type 0 where
+  pub behind : waiting ≤ to
+  pub within : to ≤ length buffer
+
+-- the bytes that wait stay, also where nothing can be read
+pub record Fetched (buffer : List ℕ) (waiting : ℕ) (r : Result ℕ Failure) (buffer' : List ℕ) : Type 0 where
+  pub read : IfOk r (Lies buffer waiting)
   pub stays : take waiting buffer' ≡ take waiting buffer
 
 -- a part's step, done whole, and its numbers
