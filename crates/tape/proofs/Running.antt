@@ -1,5 +1,5 @@
 -- A run over a part of a tape, turn by turn: sums that stop, and the text so far. Assumes nothing.
-use Rattle.std.proofs.Common.{ℕ, ◌+◌, ◌-◌, ◌≤◌, ◌<◌, arith, add_assoc, add-zero, Bool, true, false, cond, ◌≡◌, refl, ap, sym, ◌∙◌, ⊎_elim, ◌⊎◌, inl, inr, List, [], ◌++◌, leb, length, drop, length-append, leb-true, leb-false, le-leb, min, le_refl, length-drop, ◌∷◌, le_of_lt, take, take_all}
+use Rattle.std.proofs.Common.{ℕ, ◌+◌, ◌-◌, ◌≤◌, ◌<◌, arith, add_assoc, add-zero, Bool, true, false, cond, ◌≡◌, refl, ap, sym, ◌∙◌, ⊎_elim, ◌⊎◌, inl, inr, List, [], ◌++◌, leb, length, drop, length-append, leb-true, leb-false, le-leb, min, le_refl, length-drop, le_of_lt, take, take_all}
 use Rattle.std.proofs.Math.Nat.{min-eq_left, min-eq_right}
 use Rattle.std.proofs.Math.Seq.{length-sets}
 use Rattle.std.proofs.lemmas.List.Edits.{sets}
@@ -11,7 +11,6 @@ use Rattle.turns.specs.declared.Turn.{Turn}
 use Rattle.turns.specs.declared.Turn.TheVariants.{Wait, Said, Stop}
 use Rattle.turns.specs.Turns.{Turned, waits, stops, says}
 use Rattle.turns.specs.Promises.{Taken}
-use Rattle.turns.specs.Laws.{turn_nothing, put-nothing}
 use Rattle.tape.specs.Lines.{State, turn_from, further, Fed, ended, behind, fed}
 use Rattle.tape.specs.Inner.{counts_in, capped, Ran}
 use Rattle.tape.specs.Runs.{turn_from_fits, fed_waits, fed_stops, fed_says, fed_fuel}
@@ -99,11 +98,11 @@ going_on whole out₀ from x rest out p h g =
     }
 
 -- WHAT HOLDS WHERE A TURN IS TO COME, of a run over `part` that began at s₀ and stands at s, before the rest t
-pub record Stands (part : List ℕ) (s₀ : State) (out₀ : List ℕ) (from : ℕ) (s : State) (t out : List ℕ) (end : ℕ) : Type 0 where
+pub record Stands (part : List ℕ) (s₀ : State) (out₀ : List ℕ) (s : State) (t out : List ℕ) (end : ℕ) : Type 0 where
   pub offset : s.offset + length t ≡ s₀.offset + length part
   pub calls : s.calls + length t ≤ s₀.calls + length part
   pub small : end ≤ greatest
-  pub going : Going (fed (length part) s₀ part) out₀ from (fed (length t) s t) out end
+  pub going : Going (fed (length part) s₀ part) out₀ 0 (fed (length t) s t) out end
 
 -- the code matches a turn's answer
 pub taken_as : {u : Turned} {t : Tables} {out : List ℕ} {at : ℕ} {r q : Turn} {t' : Tables} {out' : List ℕ}
@@ -120,25 +119,25 @@ other_turn : {A : Type 0} (r q : Turn) → r ≡ q → (turn_kind r ≡ turn_kin
 other_turn r q e h = absurd (h (ap turn_kind e))
 
 -- A TURN THAT SAID A LINE, and where the run then stands
-pub record Onward (part : List ℕ) (s₀ : State) (out₀ : List ℕ) (from : ℕ) (s : State) (t : List ℕ) (end : ℕ) (t' : Tables) (out' : List ℕ)
+pub record Onward (part : List ℕ) (s₀ : State) (out₀ : List ℕ) (s : State) (t : List ℕ) (end : ℕ) (t' : Tables) (out' : List ℕ)
     (used len lent : ℕ) : Type 0 where
   pub least : 2 ≤ used
   pub within : used ≤ length t
-  pub stands : Stands part s₀ out₀ from (further s used lent t') (drop used t) out' (capped end len)
+  pub stands : Stands part s₀ out₀ (further s used lent t') (drop used t) out' (capped end len)
 
 -- as the code has it: the rest is cut off, and the sum stops
-pub next_turn : {part : List ℕ} {s₀ : State} {out₀ : List ℕ} {from : ℕ} {s : State} {t : List ℕ} {end : ℕ} {t' : Tables} {out' : List ℕ} {used len lent : ℕ}
-    (n end' : ℕ) → Onward part s₀ out₀ from s t end t' out' used len lent → length t - used ≤ n → end' ≡ min (end + len) greatest
-    → Stands part s₀ out₀ from (further s used lent t') (take n (drop used t)) out' end'
+pub next_turn : {part : List ℕ} {s₀ : State} {out₀ : List ℕ} {s : State} {t : List ℕ} {end : ℕ} {t' : Tables} {out' : List ℕ}
+    {used len lent : ℕ} (n end' : ℕ) → Onward part s₀ out₀ s t end t' out' used len lent → length t - used ≤ n → end' ≡ min (end + len) greatest
+    → Stands part s₀ out₀ (further s used lent t') (take n (drop used t)) out' end'
 next_turn {t} {end} {used} {len} n end' o h e =
     rw (take_all n (drop used t) (omega (arith, length-drop used t)), e ∙ saturated end len) o.stands
 
-module _ (part : List ℕ) (s₀ : State) (out₀ : List ℕ) (from : ℕ) (s : State) (t out : List ℕ) (end : ℕ) (t' : Tables) (out' : List ℕ)
-    (short : length out₀ < greatest) (g : Stands part s₀ out₀ from s t out end) where
-  pub said : (used len lent : ℕ) → Taken (turn_from s t) s.tables out end (Said used len lent) t' out' → Onward part s₀ out₀ from s t end t' out' used len lent
+module _ (part : List ℕ) (s₀ : State) (out₀ : List ℕ) (s : State) (t out : List ℕ) (end : ℕ) (t' : Tables) (out' : List ℕ)
+    (short : length out₀ < greatest) (g : Stands part s₀ out₀ s t out end) where
+  pub said : (used len lent : ℕ) → Taken (turn_from s t) s.tables out end (Said used len lent) t' out' → Onward part s₀ out₀ s t end t' out' used len lent
   said used len lent = go (turn_from s t) refl
     where
-      go : (u : Turned) → turn_from s t ≡ u → Taken u s.tables out end (Said used len lent) t' out' → Onward part s₀ out₀ from s t end t' out' used len lent
+      go : (u : Turned) → turn_from s t ≡ u → Taken u s.tables out end (Said used len lent) t' out' → Onward part s₀ out₀ s t end t' out' used len lent
       go waits e k = other_turn _ _ k.turn (λ z. omega arith)
       go (stops x) e k = other_turn _ _ k.turn (λ z. omega arith)
       go (says x u records t'') e k =
@@ -152,7 +151,7 @@ module _ (part : List ℕ) (s₀ : State) (out₀ : List ℕ) (from : ℕ) (s : 
           let f : fed (length t) s t ≡ behind x (fed (length (drop u t)) next (drop u t)) =
           fed_says (length t) s t x u records t'' e (le_refl _)
           ∙ ap (behind x) (fed_fuel (length t - 1) (length (drop u t)) next (drop u t) (omega (arith, d.least, d.within)) (le_refl _)) in
-          let g' : Going (fed (length part) s₀ part) out₀ from (behind x (fed (length (drop u t)) next (drop u t))) out end = rw f at g.going in
+          let g' : Going (fed (length part) s₀ part) out₀ 0 (behind x (fed (length (drop u t)) next (drop u t))) out end = rw f at g.going in
           record {
             least = omega (arith, d.least);
             within = omega (arith, d.within);
@@ -162,53 +161,47 @@ module _ (part : List ℕ) (s₀ : State) (out₀ : List ℕ) (from : ℕ) (s : 
                   offset = omega (arith, g.offset, n, d.within);
                   calls = omega (arith, g.calls, n, d.least, d.within);
                   small = capped_greatest end (length x);
-                  going = going_on (fed (length part) s₀ part) out₀ from x (fed (length (drop u t)) next (drop u t)) out end short g';
+                  going = going_on (fed (length part) s₀ part) out₀ 0 x (fed (length (drop u t)) next (drop u t)) out end short g';
                 };
           }
 
   -- A RUN THAT ENDS
   ran : (x : List ℕ) (b : Bool) (q : ℕ) → fed (length t) s t ≡ ended x s t b → t' ≡ s.tables → out' ≡ put_in out end x → q ≡ capped end (length x)
-      → Ran (fed (length part) s₀ part) from out₀ (record { waiting = length t; counts = counts_in s; end = q; stopped = b }) t' out'
+      → Ran (fed (length part) s₀ part) out₀ (record { waiting = length t; counts = counts_in s; end = q; stopped = b }) t' out'
   ran x b q e same eo eq =
-      let d : Going (fed (length part) s₀ part) out₀ from (ended x s t b) out end = rw e at g.going in
-      let size : q ≡ capped from (length (fed (length part) s₀ part).text) = eq ∙ d.size in
+      let d : Going (fed (length part) s₀ part) out₀ 0 (ended x s t b) out end = rw e at g.going in
       record {
-        answer_is = rw (← d.left, ← d.state, ← d.stopped, size);
+        answer_is = rw (← d.left, ← d.state, ← d.stopped, eq ∙ d.size);
         tables_are = same ∙ ap (λ (z : State). z.tables) d.state;
-        text = λ i.
-            let k : end + length x ≡ from + length (fed (length part) s₀ part).text = place_of_lem end _ from _ d.size (omega arith) in
-            let r : length out ≡ length out₀ = d.as_long in
-            eo ∙ sym (put-fits out end x (omega arith)) ∙ d.text i;
+        lines =
+            record {
+              end = eq ∙ d.size;
+              text = λ i.
+                  let k : end + length x ≡ 0 + length (fed (length part) s₀ part).text = place_of_lem end _ 0 _ d.size (omega arith) in
+                  let r : length out ≡ length out₀ = d.as_long in
+                  eo ∙ sym (put-fits out end x (omega arith)) ∙ d.text (omega arith);
+            };
       }
 
   pub ran_waits : Taken (turn_from s t) s.tables out end Wait t' out'
-      → Ran (fed (length part) s₀ part) from out₀ (record { waiting = length t; counts = counts_in s; end = end; stopped = false }) t' out'
+      → Ran (fed (length part) s₀ part) out₀ (record { waiting = length t; counts = counts_in s; end = end; stopped = false }) t' out'
   ran_waits = go (turn_from s t) refl
     where
       go : (u : Turned) → turn_from s t ≡ u → Taken u s.tables out end Wait t' out'
-          → Ran (fed (length part) s₀ part) from out₀ (record { waiting = length t; counts = counts_in s; end = end; stopped = false }) t' out'
+          → Ran (fed (length part) s₀ part) out₀ (record { waiting = length t; counts = counts_in s; end = end; stopped = false }) t' out'
       go waits e k = ran [] false end (fed_waits (length t) s t e) k.tables k.text (sym (capped_small end 0 (omega (arith, g.small)) ∙ add-zero end))
       go (stops x) e k = other_turn _ _ k.turn (λ z. omega arith)
       go (says x u records t'') e k = other_turn _ _ k.turn (λ z. omega arith)
 
   pub ran_stops : (len q : ℕ) → Taken (turn_from s t) s.tables out end (Stop len) t' out' → q ≡ capped end len
-      → Ran (fed (length part) s₀ part) from out₀ (record { waiting = length t; counts = counts_in s; end = q; stopped = true }) t' out'
+      → Ran (fed (length part) s₀ part) out₀ (record { waiting = length t; counts = counts_in s; end = q; stopped = true }) t' out'
   ran_stops len q = go (turn_from s t) refl
     where
       go : (u : Turned) → turn_from s t ≡ u → Taken u s.tables out end (Stop len) t' out' → q ≡ capped end len
-          → Ran (fed (length part) s₀ part) from out₀ (record { waiting = length t; counts = counts_in s; end = q; stopped = true }) t' out'
+          → Ran (fed (length part) s₀ part) out₀ (record { waiting = length t; counts = counts_in s; end = q; stopped = true }) t' out'
       go waits e k eq = other_turn _ _ k.turn (λ z. omega arith)
       go (stops x) e k eq =
           let tt = k.turn in
           let el : len ≡ length x = cc in
           ran x true q (fed_stops (length t) s t x e (le_refl _)) k.tables k.text (eq ∙ ap (λ (m : ℕ). capped end m) el)
       go (says x u records t'') e k eq = other_turn _ _ k.turn (λ z. omega arith)
-
--- at the end of the part
-pub ran_all : (part : List ℕ) (s₀ : State) (out₀ : List ℕ) (from : ℕ) (s : State) (t out : List ℕ) (end : ℕ)
-    → length out₀ < greatest → Stands part s₀ out₀ from s t out end → length t ≤ 0
-    → Ran (fed (length part) s₀ part) from out₀ (record { waiting = length t; counts = counts_in s; end = end; stopped = false }) s.tables out
-ran_all part s₀ out₀ from s [] out end short g done =
-    ran_waits part s₀ out₀ from s [] out end s.tables out short g
-    (rw (turn_nothing (s.calls + 1) s.offset s.records s.tables) record { turn = refl; tables = refl; text = put-nothing out end })
-ran_all part s₀ out₀ from s (x ∷ t) out end short g done = absurd (omega arith)

@@ -40,14 +40,11 @@ unfolding call_lines last_of
 end_lines part e = rw e
 
 module _ (part out₀ : List ℕ) (r : Intake) (t : Tables) (buffer : List ℕ) (short : length out₀ < greatest)
-    (d : Ran (ran part) 0 out₀ r t buffer) where
-  end_is : r.end ≡ capped 0 (length (ran part).text)
-  end_is = ap (λ (x : Intake). x.end) d.answer_is
-
+    (d : Ran (ran part) out₀ r t buffer) where
   pub calls_stopped : r.stopped ≡ true → LinesIn (call_lines part) out₀ r.end buffer
   calls_stopped e =
       let k : call_lines part ≡ (ran part).text = stop_lines part (sym (ap (λ (x : Intake). x.stopped) d.answer_is) ∙ e) in
-      rw k (record { end = end_is; text = λ i. d.text (omega arith) })
+      rw k d.lines
 
   pub calls_end : (q : ℕ) (out : List ℕ) → r.stopped ≡ false → length buffer ≡ length out₀
       → Closed buffer r.end (end_line (eqb r.waiting 0) r.counts.calls r.counts.offset) q out → LinesIn (call_lines part) out₀ q out
@@ -61,12 +58,12 @@ module _ (part out₀ : List ℕ) (r : Intake) (t : Tables) (buffer : List ℕ) 
       rw k
       (record {
         end =
-            c.end ∙ ap (λ (y : List ℕ). capped r.end (length y)) x ∙ ap (λ (m : ℕ). capped m (length last)) end_is
+            c.end ∙ ap (λ (y : List ℕ). capped r.end (length y)) x ∙ ap (λ (m : ℕ). capped m (length last)) d.lines.end
             ∙ capped_sum 0 (length f.text) (length last) ∙ ap (λ (m : ℕ). capped 0 m) (sym a);
         text = λ i.
-            let ro : r.end ≡ 0 + length f.text = end_is ∙ capped_small 0 (length f.text) (omega arith) in
+            let ro : r.end ≡ 0 + length f.text = d.lines.end ∙ capped_small 0 (length f.text) (omega arith) in
             c.text ∙ ap (λ (y : List ℕ). put_in buffer r.end y) x ∙ sym (put-fits buffer r.end last (omega arith))
-            ∙ ap (λ (l : List ℕ). sets l r.end last) (d.text (omega arith))
+            ∙ ap (λ (l : List ℕ). sets l r.end last) (d.lines.text (omega arith))
             ∙ sets_at out₀ 0 r.end f.text last ro;
       })
 

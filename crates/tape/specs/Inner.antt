@@ -1,5 +1,5 @@
 -- What the code's inner functions ask for and leave: of a run over a part of a tape, and of the lines of the whole.
-use Rattle.std.specs.Prelude.{ℕ, ◌+◌, ◌≤◌, ◌≡◌, cond, List, leb, length}
+use Rattle.std.specs.Prelude.{ℕ, ◌+◌, ◌≤◌, ◌<◌, ◌≡◌, cond, List, leb, length}
 use Rattle.std.proofs.lemmas.List.Edits.{sets}
 use Rattle.text.specs.Text.{greatest}
 use Rattle.rules.specs.Tables.{Tables}
@@ -21,19 +21,15 @@ capped a b = cond (leb (a + b) greatest) (a + b) greatest
 -- a part of n bytes leaves every number below the greatest
 pub record Counted (k : Counts) (n : ℕ) : Type 0 where
   pub offset : k.offset + n ≤ greatest
-  pub calls : k.calls + n ≤ greatest
-
--- what a run over a part leaves: what `fed` says. Its text goes into a buffer from `from` on
-abbrev pub run_of : Fed → ℕ → Intake
-run_of f from =
-    record { waiting = length f.left; counts = counts_in f.state; end = capped from (length f.text); stopped = f.stopped }
-
-pub record Ran (f : Fed) (from : ℕ) (out : List ℕ) (r : Intake) (t' : Tables) (out' : List ℕ) : Type 0 where
-  pub answer_is : r ≡ run_of f from
-  pub tables_are : t' ≡ f.state.tables
-  pub text : from + length f.text ≤ length out → out' ≡ sets out from f.text
+  pub calls : k.calls + n < greatest
 
 -- lines: where their text would end, and the text where it fits whole
 pub record LinesIn (xs out : List ℕ) (r : ℕ) (out' : List ℕ) : Type 0 where
   pub end : r ≡ capped 0 (length xs)
   pub text : length xs ≤ length out → out' ≡ sets out 0 xs
+
+-- what a run over a part leaves: what `fed` says
+pub record Ran (f : Fed) (out : List ℕ) (r : Intake) (t' : Tables) (out' : List ℕ) : Type 0 where
+  pub answer_is : r ≡ record { waiting = length f.left; counts = counts_in f.state; end = capped 0 (length f.text); stopped = f.stopped }
+  pub tables_are : t' ≡ f.state.tables
+  pub lines : LinesIn f.text out r.end out'

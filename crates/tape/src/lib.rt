@@ -1,7 +1,8 @@
 // Tapes: a run over a part of a tape, turn by turn, and the whole.
 #![tactic(auto)]
 
-ghost use Rattle.std.specs.Prelude.{◌≡◌, length};
+ghost use Rattle.std.specs.Prelude.{◌≡◌, ◌+◌, ◌≤◌, ◌<◌, length};
+ghost use Rattle.text.specs.Text.{greatest};
 ghost use Rattle.rules.specs.Lent.{lent, left_tables};
 ghost use Rattle.tape.specs.Lines.{fed, end_line, call_lines, lines_of};
 ghost use Rattle.tape.specs.Inner.{state_of, Counted, Ran, LinesIn};
@@ -16,6 +17,21 @@ pub struct Counts {
     pub calls: u64,
     pub offset: u64,
     pub records: u64,
+}
+
+impl Counts {
+    // After a call more, of so many bytes.
+    fn after(self, taken: usize, records: u64) -> Counts
+        requires calls { self.calls < greatest }
+        requires offset { self.offset + taken ≤ greatest }
+        ensures { result ≡ record { calls = self.calls + 1; offset = self.offset + taken; records = records } }
+    {
+        Counts {
+            calls: self.calls + 1,
+            offset: self.offset + taken as u64,
+            records,
+        }
+    }
 }
 
 // What a run over a part came to: the bytes that wait at its end, the counts, where the text ends, and whether the tape is stopped.
@@ -50,61 +66,41 @@ pub const OPENING: Counts = Counts {
 // Numbers beyond this are too near the end of 64 bits to count on: 2^62.
 pub const FAR_OFF: u64 = 1 << 62;
 
-// Takes every whole call of a part of a tape, and puts the lines into out from `from` on.
+// Takes every whole call of a part of a tape, and puts the lines into out.
 fn feed(
     part: &[u8],
-    k: Counts,
+    mut k: Counts,
     values: &mut [u64],
     words: &mut [u64],
     seats: &mut [u64],
     out: &mut [u8],
-    from: usize,
 ) -> Intake
     requires { Counted k (length part.now) }
-    ensures { Ran (fed (length part.now) (state_of k (lent values.old words.old seats.old)) part.now) from out.old
+    ensures { Ran (fed (length part.now) (state_of k (lent values.old words.old seats.old)) part.now) out.old
         result (left_tables values.new words.new seats.new) out.new }
 {
     let mut rest = part;
-    let mut counts = k;
-    let mut end = from;
-    while !rest.is_empty() {
-        let turn = take_turn(
-            rest,
-            counts.calls + 1,
-            counts.offset,
-            counts.records,
-            values,
-            words,
-            seats,
-            out,
-            end,
-        );
-        match turn {
-            Turn::Wait => break,
+    let mut end = 0;
+    let stopped = loop {
+        let n = k.calls + 1;
+        match take_turn(rest, n, k.offset, k.records, values, words, seats, out, end) {
+            Turn::Wait => break false,
             Turn::Stop { len } => {
-                return Intake {
-                    waiting: rest.len(),
-                    counts,
-                    end: end.saturating_add(len),
-                    stopped: true,
-                };
+                end = end.saturating_add(len);
+                break true;
             }
             Turn::Said(taken, len, records) => {
                 rest = &rest[taken..];
-                counts = Counts {
-                    calls: counts.calls + 1,
-                    offset: counts.offset + taken as u64,
-                    records,
-                };
+                k = k.after(taken, records);
                 end = end.saturating_add(len);
             }
         }
-    }
+    };
     Intake {
         waiting: rest.len(),
-        counts,
+        counts: k,
         end,
-        stopped: false,
+        stopped,
     }
 }
 
@@ -127,7 +123,7 @@ fn calls(part: &[u8], out: &mut [u8]) -> usize
     let mut values = [0; RECORDS];
     let mut words = [0; RECORDS];
     let mut seats = [0; SEATS];
-    let r = feed(part, OPENING, &mut values, &mut words, &mut seats, out, 0);
+    let r = feed(part, OPENING, &mut values, &mut words, &mut seats, out);
     if r.stopped {
         return r.end;
     }
@@ -203,7 +199,7 @@ pub fn absorb(
             stopped: true,
         };
     }
-    let r = feed(&buf[from..to], k, values, words, seats, out, 0);
+    let r = feed(&buf[from..to], k, values, words, seats, out);
     buf.copy_within(to - r.waiting..to, 0);
     r
 }

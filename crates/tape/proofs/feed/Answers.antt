@@ -1,75 +1,76 @@
 -- `tape::feed` meets its contract: whenever the loop's test is reached, the rest of the part leads to what the whole leads to. Assumes nothing.
-use Rattle.std.proofs.Common.{arith, ℕ, ◌≡◌, ◌<◌, length, length-drop, ◌∙◌, sym, le_of_eq, eqb-true}
+use Rattle.std.proofs.Common.{arith, ℕ, ◌≡◌, ◌<◌, length, length-drop, ◌∙◌}
 use Rattle.rules.specs.Tables.{Tables, tables}
 use Rattle.turns.specs.declared.Turn.TheVariants.{Said}
 use Rattle.tape.specs.Lines.{State}
 use Rattle.text.specs.Text.{greatest}
 use Rattle.tape.specs.Inner.{state_of}
-use Rattle.tape.proofs.Running.{saturated, taken_as, Onward, said, next_turn, ran_waits, ran_stops, ran_all}
+use Rattle.tape.proofs.Running.{saturated, taken_as, Onward, said, next_turn, ran_waits, ran_stops}
 use Rattle.tape.proofs.feed.Goals as goal
-use Rattle.tape.proofs.feed.Goals.{After-take_turn-turn}
+use Rattle.tape.proofs.feed.Goals.{After-take_turn}
 
 -- A TURN: where the run began, where it stands, and the tables that the turn left
-abbrev began : After-take_turn-turn → State
+abbrev began : After-take_turn → State
 began k = let a = k.args in state_of a.k (tables a.values.now a.words.now a.seats.now)
 
-abbrev here : After-take_turn-turn → State
-here k = let L = k.loop-values in state_of L.counts (tables L.values L.words L.seats)
+abbrev here : After-take_turn → State
+here k = let L = k.loop-len in state_of L.k (tables L.values L.words L.seats)
 
-abbrev tables_after : After-take_turn-turn → Tables
-tables_after k = let l = k.take_turn-turn.new in tables l.values l.words l.seats
+abbrev tables_after : After-take_turn → Tables
+tables_after k = let l = k.take_turn.new in tables l.values l.words l.seats
 
-short : (k : After-take_turn-turn) → length k.args.out.now < greatest
+short : (k : After-take_turn) → length k.args.out.now < greatest
 short k = omega (arith, k.well_formed)
 
 -- more bytes are wanted
 pub returns-in-Wait : goal.returns-in-Wait
 returns-in-Wait c =
-    let k = (goal.at.returns-in-Wait c).After-take_turn-turn in
-    ran_waits _ (began k) _ _ (here k) _ _ _ _ _ (short k) c.loop-values.invariant (taken_as {t' = tables_after k} c.in-Wait.is k.take_turn-turn.ensures)
+    let k = (goal.at.returns-in-Wait c).After-take_turn in
+    ran_waits _ (began k) _ (here k) _ _ _ _ _ (short k) c.loop-len.invariant (taken_as {t' = tables_after k} c.in-Wait.is k.take_turn.ensures)
 
 -- the tape is stopped
 pub returns-in-Stop : goal.returns-in-Stop
 returns-in-Stop c =
-    let k = (goal.at.returns-in-Stop c).After-take_turn-turn in
-    ran_stops _ (began k) _ _ (here k) _ _ _ _ _ (short k) c.loop-values.invariant c.in-Stop.len c.saturating_add.result
-    (taken_as {t' = tables_after k} c.in-Stop.is k.take_turn-turn.ensures) (c.saturating_add.ensures ∙ saturated _ _)
+    let k = (goal.at.returns-in-Stop c).After-take_turn in
+    ran_stops _ (began k) _ (here k) _ _ _ _ _ (short k) c.loop-len.invariant c.in-Stop.len c.saturating_add-end.result
+    (taken_as {t' = tables_after k} c.in-Stop.is k.take_turn.ensures) (c.saturating_add-end.ensures ∙ saturated _ _)
 
 -- a line was said
-onward : (k : After-take_turn-turn) (used len lent : ℕ) → k.take_turn-turn.result ≡ Said used len lent →
-    let L = k.loop-values in
+onward : (k : After-take_turn) (used len lent : ℕ) → k.take_turn.result ≡ Said used len lent →
+    let L = k.loop-len in
     let a = k.args in
-    Onward a.part.now (began k) a.out.now a.from (here k) L.rest.now L.end (tables_after k) k.take_turn-turn.new.out used len lent
+    Onward a.part.now (began k) a.out.now (here k) L.rest.now L.end (tables_after k) k.take_turn.new.out used len lent
 onward k used len lent e =
-    said _ (began k) _ _ (here k) _ _ _ _ _ (short k) k.loop-values.invariant used len lent (taken_as {t' = tables_after k} e k.take_turn-turn.ensures)
+    said _ (began k) _ (here k) _ _ _ _ _ (short k) k.loop-len.invariant used len lent (taken_as {t' = tables_after k} e k.take_turn.ensures)
 
 pub slice_bounds-rest-count : goal.slice_bounds-rest-count
 slice_bounds-rest-count c =
-    let k = (goal.at.slice_bounds-rest-count c).After-take_turn-turn in
+    let k = (goal.at.slice_bounds-rest-count c).After-take_turn in
     (onward k _ _ _ c.in-Said.is).within
 
 pub slice_bounds-rest-start : goal.slice_bounds-rest-start
 slice_bounds-rest-start c =
-    let k = (goal.at.slice_bounds-rest-start c).After-take_turn-turn in
+    let k = (goal.at.slice_bounds-rest-start c).After-take_turn in
     (onward k _ _ _ c.in-Said.is).within
 
-pub overflow_add-counts-in-Said-2 : goal.overflow_add-counts-in-Said-2
-overflow_add-counts-in-Said-2 c =
-    let k = (goal.at.overflow_add-counts-in-Said-2 c).After-take_turn-turn in
-    omega (arith, (onward k _ _ _ c.in-Said.is).within, c.loop-values.invariant.offset, c.requires.offset)
-
-pub loop-values-smaller : goal.loop-values-smaller
-loop-values-smaller c =
-    let k = (goal.at.loop-values-smaller c).After-take_turn-turn in
+pub after-k-requires-clause-calls : goal.after-k-requires-clause-calls
+after-k-requires-clause-calls c =
+    let k = (goal.at.after-k-requires-clause-calls c).After-take_turn in
     let s = onward k _ _ _ c.in-Said.is in
-    omega (arith, s.within, s.least, length-drop c.in-Said.taken c.loop-values.rest.now)
+    omega (arith, s.within, s.least, c.loop-len.invariant.calls, c.requires.calls)
 
-pub loop-values-preserved : goal.loop-values-preserved
-loop-values-preserved c =
-    let k = (goal.at.loop-values-preserved c).After-take_turn-turn in
-    next_turn _ _ (onward k _ _ _ c.in-Said.is) (omega arith) c.saturating_add-end.ensures
+pub after-k-requires-clause-offset : goal.after-k-requires-clause-offset
+after-k-requires-clause-offset c =
+    let k = (goal.at.after-k-requires-clause-offset c).After-take_turn in
+    omega (arith, (onward k _ _ _ c.in-Said.is).within, c.loop-len.invariant.offset, c.requires.offset)
 
--- the end of the part
-pub returns-after-loop-values : goal.returns-after-loop-values
-returns-after-loop-values c = ran_all _ _ _ _ _ _ _ _ (omega (arith, c.well_formed)) c.loop-values.invariant
-    (le_of_eq (eqb-true _ _ (sym c.is_empty.ensures ∙ c.loop-values-test.false)))
+pub loop-len-smaller : goal.loop-len-smaller
+loop-len-smaller c =
+    let k = (goal.at.loop-len-smaller c).After-take_turn in
+    let s = onward k _ _ _ c.in-Said.is in
+    omega (arith, s.within, s.least, length-drop c.in-Said.taken c.loop-len.rest.now)
+
+pub loop-len-preserved : goal.loop-len-preserved
+loop-len-preserved c =
+    let k = (goal.at.loop-len-preserved c).After-take_turn in
+    rw c.after-k.ensures (next_turn _ _ (onward k _ _ _ c.in-Said.is) (omega arith) c.saturating_add-end-in-Said.ensures)

@@ -4,11 +4,10 @@ use Rattle.tape.specs.Inner.{state_of}
 use Rattle.tape.proofs.Running.{Stands}
 use Rattle.tape.proofs.feed.Given as goal
 
-abbrev pub invariant-loop-values : goal.invariant-loop-values
-invariant-loop-values l =
+abbrev pub invariant-loop-len : goal.invariant-loop-len
+invariant-loop-len l =
     let i = l.initial in
-    Stands l.part (state_of i.counts (tables i.values i.words i.seats)) i.out l.from
-    (state_of l.counts (tables l.values l.words l.seats)) l.rest l.out l.end
+    Stands l.part (state_of i.k (tables i.values i.words i.seats)) i.out (state_of l.k (tables l.values l.words l.seats)) l.rest l.out l.end
 
-abbrev pub decreases-loop-values : goal.decreases-loop-values
-decreases-loop-values l = length l.rest
+abbrev pub decreases-loop-len : goal.decreases-loop-len
+decreases-loop-len l = length l.rest
