@@ -67,9 +67,6 @@ pub record Going (whole : Fed) (out₀ : List ℕ) (from : ℕ) (rest : Fed) (ou
   pub as_long : length out ≡ length out₀
   pub text : from + length whole.text ≤ length out₀ → sets out p rest.text ≡ sets out₀ from whole.text
 
-pub going_start : (f : Fed) (out : List ℕ) (from : ℕ) → Going f out from f out from
-going_start f out from = record { state = refl; left = refl; stopped = refl; size = refl; as_long = refl; text = λ h. refl }
-
 length-put : (l : List ℕ) (at : ℕ) (x : List ℕ) → length (put_in l at x) ≡ length l
 unfolding put_in
 length-put l at x = cond_ind (λ (m : List ℕ). length m ≡ length l) (leb (at + length x) (length l)) (λ _. length-sets l at x) (λ _. refl)

@@ -1,9 +1,8 @@
 -- `tape::absorb` meets its contract. Assumes nothing.
-use Rattle.std.proofs.Common.{◌-◌, ◌≤◌, arith, rules, le_refl, ◌≡◌, sym, ◌∙◌, false, true≢false, ap, length, drop, length-drop, length-take-le}
+use Rattle.std.proofs.Common.{List, ℕ, ◌-◌, ◌≤◌, arith, rules, le_refl, ◌≡◌, sym, ◌∙◌, false, true≢false, length, drop, length-drop, length-take-le}
 use Rattle.rules.specs.Tables.{Tables, tables}
-use Rattle.tape.specs.declared.Intake.{Intake}
 use Rattle.tape.specs.Inner.{state_of}
-use Rattle.tape.specs.Lines.{Fed, fed}
+use Rattle.tape.specs.Lines.{State, Fed, fed}
 use Rattle.tape.specs.Runs.{grown, left_is_end}
 use Rattle.tape.specs.Promises.{part, unfit_for}
 use Rattle.tape.specs.Room.{Fit, fit, text_room}
@@ -43,15 +42,24 @@ feed-r-requires c =
     let n = part_length fine in
     record { offset = omega (arith, g.offset, g.roomy, c.well_formed); calls = omega (arith, g.calls, g.roomy, c.well_formed) }
 
--- what waits is the end of the part
+-- what the run is of, and what waits is the end of it
+abbrev state_at : After-feed-r → State
+state_at c = let a = c.args in state_of a.k (tables a.values.now a.words.now a.seats.now)
+
+abbrev part_at : After-feed-r → List ℕ
+part_at c = let a = c.args in part a.buf.now a.from a.to
+
+abbrev fed_at : After-feed-r → Fed
+fed_at c = fed (length (part_at c)) (state_at c) (part_at c)
+
+ends : (c : After-feed-r) → let f = fed_at c in f.left ≡ drop (length (part_at c) - length f.left) (part_at c)
+ends c = left_is_end (length (part_at c)) (state_at c) (part_at c) (le_refl _)
+
 waits_within : (c : After-feed-r) → let a = c.args in
     Fit (length a.buf.now) a.from a.to a.k (length a.values.now) (length a.words.now) (length a.out.now) → c.feed-r.result.waiting ≤ a.to - a.from
 waits_within c g =
     let a = c.args in
-    let p = part a.buf.now a.from a.to in
-    let s = state_of a.k (tables a.values.now a.words.now a.seats.now) in
-    left_fits a.buf.now a.out.now a.from a.to (fed (length p) s p) c.feed-r.result _ _ c.feed-r.ensures (left_is_end (length p) s p (le_refl (length p)))
-    g.behind g.inside
+    left_fits a.buf.now a.out.now a.from a.to (fed_at c) c.feed-r.result _ _ c.feed-r.ensures (ends c) g.behind g.inside
 
 pub overflow_sub-to : goal.overflow_sub-to
 overflow_sub-to c =
@@ -66,22 +74,17 @@ copy_within-requires-clause-dest_in_bounds c = omega (arith, (fitting (goal.at.c
 
 pub returns : goal.returns
 returns c =
+    let k = (goal.at.returns c).After-feed-r in
     let fine = (goal.at.returns c).Else-is_unfit in
     let a = c.args in
     let g = fitting fine in
-    let p = part a.buf.now a.from a.to in
-    let s = state_of a.k (found fine) in
-    let f : Fed = fed (length p) s p in
-    let ran = c.feed-r.ensures in
-    let ends = left_is_end (length p) s p (le_refl (length p)) in
-    let roomy = text_room (length p) s p (le_refl (length p)) in
+    let n = le_refl (length (part_at k)) in
     record {
       done = λ _.
-          took a.buf.now a.out.now a.from a.to f c.feed-r.result _ _ ran ends g.behind g.inside _ c.copy_within.ensures.after
-          (omega (arith, roomy, part_length fine, g.roomy)) (omega (arith, c.well_formed));
+          took a.buf.now a.out.now a.from a.to (fed_at k) c.feed-r.result _ _ c.feed-r.ensures (ends k) g.behind g.inside _ c.copy_within.ensures.after
+          (omega (arith, text_room _ (state_at k) (part_at k) n, part_length fine, g.roomy)) (omega (arith, c.well_formed));
       refused = λ e. absurd (true≢false (sym e ∙ not-unfit fine));
-      short = λ e.
-          waits_few a.buf.now a.out.now a.from a.to f c.feed-r.result _ _ ran ends g.behind g.inside
-          (λ i. search rules)
-          ((grown (length p) s p (le_refl (length p))).wanting (sym (ap (λ (x : Intake). x.stopped) ran.answer_is) ∙ e));
+      short =
+          waits_few a.buf.now a.out.now a.from a.to (fed_at k) c.feed-r.result _ _ c.feed-r.ensures (ends k) g.behind g.inside (λ i. search rules)
+          (grown _ (state_at k) (part_at k) n).wanting;
     }
