@@ -30,9 +30,9 @@ most_turns = (far_off - 1) / input_length
 pub record Proceeds (f : Flow) (turns : ℕ) : Type 0 where
   pub going : f.stopped ≡ false
   pub roomy : f.waiting < input_length
-  pub calls : f.calls ≤ f.offset
-  pub offset : f.offset + f.waiting + input_length * turns ≤ far_off
-  pub records : f.records ≤ most_records
+  pub calls : f.counts.calls ≤ f.counts.offset
+  pub offset : f.counts.offset + f.waiting + input_length * turns ≤ far_off
+  pub records : f.counts.records ≤ most_records
 
 -- what a step asks for
 pub record Asked (f : Flow) (buffer : List ℕ) (to : ℕ) (t : Tables) (out : List ℕ) : Type 0 where
@@ -57,9 +57,9 @@ pub record Pumped (f : Flow) (buffer : List ℕ) (to : ℕ) (t : Tables) (out : 
   pub went : Went (stepped (stand_of f t buffer) (part buffer f.waiting to)) buffer out r buffer' t' out'
   pub fits : r.end ≤ output_length
   pub roomy : r.stopped ≡ false → r.waiting < input_length
-  pub calls : r.calls ≤ r.offset
-  pub offset : r.offset + r.waiting ≤ f.offset + to
-  pub records : r.records ≤ most_records
+  pub calls : r.counts.calls ≤ r.counts.offset
+  pub offset : r.counts.offset + r.waiting ≤ f.counts.offset + to
+  pub records : r.counts.records ≤ most_records
 
 -- the last line, whole
 pub record Ended (f : Flow) (out : List ℕ) (r : ℕ) (out' : List ℕ) : Type 0 where
