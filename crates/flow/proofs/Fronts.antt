@@ -1,27 +1,18 @@
 -- A buffer's front, and the steps over it. Assumes nothing.
-use Prim.Native.Nat.{ℕ, ◌+◌, ◌-◌, ◌≤◌, ◌<◌}
-use native.Mathlib.Omega.{arith}
-use native.Mathlib.Nat.{sub-zero, zero-add}
-use mathlib.Core.Path.{◌≡◌, refl, ap, sym, ◌∙◌}
-use mathlib.Core.Bool.{Bool, true, false, true≢false}
-use mathlib.Core.List.{List, [], ◌++◌}
-use lib.Dec.{eqb}
-use lib.ListN.{length, take, drop, get_or, take-append-drop}
-use lib.Seq.{length-take-le, take-add, get_or-take}
-use borrow.Author.Tests.{eq-eqb, ne_eqb, le-leb}
+use Rattle.std.proofs.Common.{ℕ, ◌+◌, ◌-◌, ◌≤◌, ◌<◌, arith, zero-add, ◌≡◌, refl, ap, sym, ◌∙◌, Bool, true, false, true≢false, List, [], ◌++◌, eqb, length, take, drop, get_or, take-append-drop, length-take-le, take-add, get_or-take, eq-eqb, ne_eqb, le-leb}
+use Rattle.std.proofs.Math.Nat.{sub-zero}
 use Rattle.text.specs.Text.{greatest, Appended}
 use Rattle.rules.specs.Tables.{Tables}
 use Rattle.turns.specs.Faults.{no_version, stop_line}
 use Rattle.turns.specs.Laws.{put-nothing}
-use Rattle.tape.specs.declared.Intake.{Intake}
 use Rattle.tape.specs.declared.Counts.{Counts}
 use Rattle.tape.specs.Lines.{State, end_line, version, first_offset}
 use Rattle.tape.specs.Inner.{state_of}
-use Rattle.tape.specs.Promises.{at_front, part, unfit, unfit_for, Closed, Absorbed}
+use Rattle.tape.specs.Promises.{at_front, part, unfit, Closed}
 use Rattle.tape.specs.Room.{Fit, fit, not-unfit, drop-take, put_front, end_line_lem}
 use Rattle.flow.specs.declared.Flow.{Flow}
 use Rattle.flow.specs.Parts.{onward, opened, stepped, closing}
-use Rattle.flow.specs.Promises.{counts_of, stand_of, halted_at, unbegun_at, unready, Goes, Stepped, Finished}
+use Rattle.flow.specs.Promises.{stand_of, halted_at, unbegun_at, unready, Goes, Stepped, Finished}
 use Rattle.flow.specs.Steps.{no_version_room}
 
 -- THE FRONT OF A BUFFER: what waits, and the part behind it
@@ -34,21 +25,6 @@ module _ (buffer : List ℕ) (w to : ℕ) (behind : w ≤ to) where
 -- what waits stays where it is
 front-stays : (buffer : List ℕ) (w : ℕ) → w ≤ length buffer → buffer ≡ at_front (take w buffer) buffer
 front-stays buffer w h = sym (rw (length-take-le w buffer h) (take-append-drop w buffer))
-
--- CALLS: what absorbing leaves is a step onward
-abbrev begun_at : Intake → Flow
-begun_at r =
-    record { begun = true; stopped = r.stopped; waiting = r.waiting; calls = r.calls; offset = r.offset; records = r.records; end = r.end }
-
-pub onward_goes : {buffer : List ℕ} {from to : ℕ} {k : Counts} {t : Tables} {out : List ℕ} {r : Intake} {buffer' : List ℕ} {t' : Tables} {out' : List ℕ}
-    → unfit_for buffer from to k t out ≡ false → Absorbed buffer from to k t out r buffer' t' out'
-    → Goes (onward (state_of k t) (part buffer from to)) buffer out (begun_at r) buffer' t' out'
-onward_goes h a =
-    let d = a.done h in
-    record {
-      went = record { answer_is = ap begun_at d.answer_is; buffer_is = d.buffer_is; tables_are = d.tables_are; out_is = d.out_is };
-      short = a.short;
-    }
 
 -- the bytes that are fit behind those that wait are fit from any place before `to`
 pub fit_from : {buffer w to : ℕ} {k : Counts} {values words out : ℕ} → Fit buffer w to k values words out
@@ -89,11 +65,11 @@ fits-step : {f : Flow} {buffer : List ℕ} {to : ℕ} {t : Tables} {out : List �
 fits-step ready k = record { done = λ _. k.went; refused = λ e. absurd (true≢false (sym e ∙ ready)); short = k.short }
 
 module _ (f : Flow) (buffer : List ℕ) (to : ℕ) (t : Tables) (out : List ℕ) (ready : unready f buffer to t out ≡ false) where
-  g : Fit (length buffer) f.waiting to (counts_of f) (length t.values) (length t.words) (length out)
+  g : Fit (length buffer) f.waiting to f.counts (length t.values) (length t.words) (length out)
   g = fit ready
 
   abbrev here : State
-  here = state_of (counts_of f) t
+  here = state_of f.counts t
 
   all_length : length (part buffer 0 to) ≡ to
   all_length = length-take-le (to - 0) buffer (omega (arith, g.inside)) ∙ sub-zero to
@@ -101,13 +77,10 @@ module _ (f : Flow) (buffer : List ℕ) (to : ℕ) (t : Tables) (out : List ℕ)
   all_first : 0 < to → get_or (part buffer 0 to) 0 0 ≡ get_or buffer 0 0
   all_first h = get_or-take (to - 0) buffer 0 0 (omega arith)
 
-  pub waits_on : {r : Flow} → to ≡ 0 → r ≡ unbegun_at f false 0 → Goes (opened here (part buffer 0 to)) buffer out r buffer t out
-  waits_on e q =
+  pub waits_on : to ≡ 0 → Goes (opened here (part buffer 0 to)) buffer out (unbegun_at f false 0) buffer t out
+  waits_on e =
       rw (opened-none here (part buffer 0 to) (all_length ∙ e))
-      record {
-        went = record { answer_is = q; buffer_is = refl; tables_are = refl; out_is = refl };
-        short = λ _. omega (arith, ap (λ (x : Flow). x.waiting) q);
-      }
+      record { went = record { answer_is = refl; buffer_is = refl; tables_are = refl; out_is = refl }; short = λ _. omega arith }
 
   pub calls_behind : {r : Flow} {buffer' : List ℕ} {t' : Tables} {out' : List ℕ} → 0 < to → get_or buffer 0 0 ≡ version
       → Goes (onward here (part buffer first_offset to)) buffer out r buffer' t' out'
@@ -117,19 +90,19 @@ module _ (f : Flow) (buffer : List ℕ) (to : ℕ) (t : Tables) (out : List ℕ)
       drop-take buffer first_offset (to - 0) (omega arith) ∙ ap (λ (n : ℕ). take (n - first_offset) (drop first_offset buffer)) (sub-zero to) in
       rw (opened_calls here (part buffer 0 to) (omega (arith, all_length)) (all_first h ∙ e), d) k
 
-  pub other_version : {n : ℕ} {out' : List ℕ} {r : Flow} → 0 < to → (get_or buffer 0 0 ≡ version → ⊥) → Appended out 0 (stop_line no_version 0) n out'
-      → r ≡ unbegun_at f true n → Goes (opened here (part buffer 0 to)) buffer out r buffer t out'
-  other_version h e a q =
+  pub other_version : {n : ℕ} {out' : List ℕ} → 0 < to → (get_or buffer 0 0 ≡ version → ⊥) → Appended out 0 (stop_line no_version 0) n out'
+      → Goes (opened here (part buffer 0 to)) buffer out (unbegun_at f true n) buffer t out'
+  other_version h e a =
       rw (opened_bad here (part buffer 0 to) (omega (arith, all_length)) (λ z. e (sym (all_first h) ∙ z)))
       record {
         went =
             record {
-              answer_is = q ∙ ap (unbegun_at f true) a.size;
+              answer_is = ap (unbegun_at f true) a.size;
               buffer_is = refl;
               tables_are = refl;
               out_is = a.text ∙ put_front (stop_line no_version 0) out (omega (arith, no_version_room, g.roomy));
             };
-        short = λ z. absurd (true≢false (sym (ap (λ (x : Flow). x.stopped) q) ∙ z));
+        short = λ z. absurd (true≢false z);
       }
 
   stays_there : f.stopped ≡ true
@@ -150,9 +123,6 @@ module _ (f : Flow) (buffer : List ℕ) (to : ℕ) (t : Tables) (out : List ℕ)
       }
 
   -- A STEP, by its three ways
-  pub stays : {r : Flow} → f.stopped ≡ true → r ≡ halted_at f → Stepped f buffer to t out r buffer t out
-  stays e q = fits-step ready (rw q (stays_there e))
-
   pub goes_on : {r : Flow} {buffer' : List ℕ} {t' : Tables} {out' : List ℕ} → f.stopped ≡ false → f.begun ≡ true
       → Goes (onward here (part buffer 0 to)) buffer out r buffer' t' out'
       → Stepped f buffer to t out r buffer' t' out'
@@ -165,6 +135,16 @@ module _ (f : Flow) (buffer : List ℕ) (to : ℕ) (t : Tables) (out : List ℕ)
   unfolding stepped
   opens e b k = fits-step ready (rw (e, b, front_joins buffer f.waiting to g.behind) k)
 
+-- unfit, or stopped before
+pub halts : (f : Flow) (buffer : List ℕ) (to : ℕ) (t : Tables) (out : List ℕ) → (unready f buffer to t out ≡ false → f.stopped ≡ true)
+    → Stepped f buffer to t out (halted_at f) buffer t out
+halts f buffer to t out why =
+    record {
+      done = λ ready. (stays_there f buffer to t out ready (why ready)).went;
+      refused = λ _. record { answer_is = refl; buffer_is = refl; tables_are = refl; out_is = refl };
+      short = λ e. absurd (true≢false e);
+    }
+
 -- THE LAST LINE, by its three ways
 module _ (f : Flow) (out : List ℕ) where
   pub ends_stopped : f.stopped ≡ true → Finished f out 0 out
@@ -172,11 +152,11 @@ module _ (f : Flow) (out : List ℕ) where
   ends_stopped e = rw e record { size = refl; text = put-nothing out 0 }
 
   pub ends-begun : {whole : Bool} {r : ℕ} {out' : List ℕ} → f.stopped ≡ false → f.begun ≡ true
-      → Closed out 0 (end_line whole f.calls f.offset) r out' → whole ≡ eqb f.waiting 0 → Finished f out r out'
+      → Closed out 0 (end_line whole f.counts.calls f.counts.offset) r out' → whole ≡ eqb f.waiting 0 → Finished f out r out'
   unfolding closing
   ends-begun e b k w =
-      let line : List ℕ = end_line (eqb f.waiting 0) f.calls f.offset in
-      let n : 0 + length line ≤ greatest = omega (arith, end_line_lem (eqb f.waiting 0) f.calls f.offset) in
+      let line : List ℕ = end_line (eqb f.waiting 0) f.counts.calls f.counts.offset in
+      let n : 0 + length line ≤ greatest = omega (arith, end_line_lem (eqb f.waiting 0) f.counts.calls f.counts.offset) in
       let k' = rw w at k in
       rw (e, b) record { size = k'.end ∙ rw (le-leb (0 + length line) greatest n) (zero-add (length line)); text = k'.text }
 

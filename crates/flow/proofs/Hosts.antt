@@ -1,9 +1,6 @@
 -- A host that hands on what it read and writes what it is given prints the lines of the whole tape. Assumes nothing.
-use Prim.Native.Nat.{ℕ, ◌≤◌}
-use mathlib.Core.Path.{◌≡◌, refl, ap, sym, ◌∙◌}
-use mathlib.Core.List.{List, [], ◌∷◌, ◌++◌, append-nil, append_assoc}
-use lib.ListN.{length, take, drop}
-use lib.Seq.{take-append_seam}
+use Rattle.std.proofs.Common.{ℕ, ◌≤◌, ◌≡◌, refl, ap, sym, ◌∙◌, List, [], ◌∷◌, ◌++◌, append-nil, append_assoc, length, take, drop}
+use Rattle.std.proofs.Math.Seq.{take-append_seam}
 use Rattle.rules.specs.Tables.{Tables}
 use Rattle.tape.specs.Lines.{opening, lines_of}
 use Rattle.tape.specs.Promises.{part}
@@ -59,6 +56,6 @@ pub host_lines : {f : Flow} {t : Tables} {buffer : List ℕ} {parts : List (List
 unfolding printed
 host_lines {f} {t} {buffer} {parts} {written} {out} h k room =
     let g = reached h in
-    let last : last_text (stand_of f t buffer) ≡ closing_of f = ap (λ (n : ℕ). closing f.begun f.stopped n f.calls f.offset) g.waits in
+    let last : last_text (stand_of f t buffer) ≡ closing_of f = ap (λ (n : ℕ). closing f.begun f.stopped n f.counts.calls f.counts.offset) g.waits in
     rw (k.size, k.text, put_front (closing_of f) out room, take-append_seam (closing_of f) (drop (length (closing_of f)) out))
     (sym (sym (parts_lines parts) ∙ ap (printed start) (sym (append-nil parts)) ∙ g.prints [] ∙ ap (λ (x : List ℕ). written ++ x) last))

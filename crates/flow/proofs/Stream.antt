@@ -1,14 +1,8 @@
 -- A tape that comes in parts prints what it prints whole. Assumes nothing.
-use Prim.Native.Nat.{ℕ, ◌+◌, ◌-◌, ◌≤◌, ◌<◌}
-use native.Mathlib.Omega.{arith}
-use native.Mathlib.Nat.{le_refl}
-use mathlib.Core.Bool.{Bool, true, false, cond, true≢false}
-use mathlib.Core.Path.{◌≡◌, refl, ap, sym, ◌∙◌, subst}
-use mathlib.Core.List.{List, [], ◌∷◌, ◌++◌, append-nil, append_assoc}
-use lib.Dec.{eqb}
-use lib.ListN.{length, take, drop, get_or, length-drop, length-append, get_or-append}
-use lib.Seq.{take-append-le, drop-append-le}
-use borrow.Author.Tests.{lt-ltb, le-ltb, le-leb, eqb-true, eqb-false}
+use Rattle.std.proofs.Common.{ℕ, ◌+◌, ◌-◌, ◌≤◌, ◌<◌, arith, le_refl, Bool, true, false, cond, true≢false, ◌≡◌, refl, ap, sym, ◌∙◌, subst, List, [], ◌∷◌, ◌++◌, append-nil, append_assoc, eqb, length, take, drop, get_or, length-drop, length-append, lt-ltb, le-ltb, le-leb, eqb-true}
+use Rattle.std.proofs.Math.ListN.{get_or-append}
+use Rattle.std.proofs.Math.Seq.{take-append-le, drop-append-le}
+use Rattle.std.proofs.lemmas.Bool.{eqb-false}
 use Rattle.frames.specs.declared.Frame.{Frame}
 use Rattle.frames.specs.declared.Frame.TheVariants.{Nothing, Short, Body}
 use Rattle.frames.specs.Decode.{be16, length_size, frame_of, decoded}
@@ -17,7 +11,7 @@ use Rattle.turns.specs.Faults.{no_version, stop_line}
 use Rattle.turns.specs.Turns.{Turned, waits, stops, says, body_turn, frame_turn, turn_of}
 use Rattle.turns.specs.Laws.{Inside, inside, turn_nothing}
 use Rattle.tape.specs.Lines.{State, turn_from, further, Fed, ended, behind, fed, last_of, version, opening, call_lines, lines_of}
-use Rattle.tape.specs.Runs.{turn_from_fits, fed_waits, fed_stops, fed_says, fed_ind, grown}
+use Rattle.tape.specs.Runs.{turn_from_fits, fed_waits, fed_stops, fed_says, fed_fuel, fed_ind, grown}
 use Rattle.flow.proofs.Fronts.{opened_calls, opened_bad}
 use Rattle.flow.specs.Parts.{Stand, Step, start, onward, opened, stepped, closing, printed, joined}
 
@@ -71,20 +65,6 @@ turn_append s a b = go (frame_of a) refl
 
 same_as : (s : State) (a b : List ℕ) {T : Turned} → turn_from s a ≡ T → Same s a b T
 same_as s a b e = subst (Same s a b) e (turn_append s a b)
-
--- THE FUEL does not matter where it is enough
-abbrev AnyFuel : State → List ℕ → Fed → Type 0
-AnyFuel s t o = (g : ℕ) → length t ≤ g → o ≡ fed g s t
-
-fuel_says : (s : State) (t x : List ℕ) (k records : ℕ) (t' : Tables) (o : Fed) → turn_from s t ≡ says x k records t'
-    → AnyFuel (further s k records t') (drop k t) o → AnyFuel s t (behind x o)
-fuel_says s t x k records t' o e ih g h =
-    let z = turn_from_fits s t e in
-    ap (behind x) (ih (g - 1) (omega (arith, z.least, length-drop k t))) ∙ sym (fed_says g s t x k records t' e h)
-
-fed_fuel : (f g : ℕ) (s : State) (t : List ℕ) → length t ≤ f → length t ≤ g → fed f s t ≡ fed g s t
-fed_fuel f g s t h i =
-    fed_ind AnyFuel (λ s t e g h. sym (fed_waits g s t e)) (λ s t x e g h. sym (fed_stops g s t x e h)) fuel_says f s t h g i
 
 -- TWO PARTS: what a first part says and leaves, and what the parts after it say
 record Joins (b : List ℕ) (s : State) (a : List ℕ) (o : Fed) : Type 0 where

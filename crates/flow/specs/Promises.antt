@@ -4,18 +4,14 @@ use Rattle.std.proofs.Common.{sym, ◌∙◌}
 use Rattle.text.specs.Text.{put_in}
 use Rattle.rules.specs.Tables.{Tables}
 use Rattle.frames.specs.Decode.{longest}
-use Rattle.tape.specs.declared.Counts.{Counts}
-use Rattle.tape.specs.Inner.{state_of}
+use Rattle.tape.specs.Inner.{state_of, counts_in}
 use Rattle.tape.specs.Promises.{at_front, part, unfit_for, Leaves, Leaves-one}
 use Rattle.flow.specs.declared.Flow.{Flow}
 use Rattle.flow.specs.Parts.{Stand, Step, start, stepped, closing}
 
 -- A FLOW'S STAND, over the program's tables and its buffer, at whose front the bytes wait
-abbrev pub counts_of : Flow → Counts
-counts_of f = record { calls = f.calls; offset = f.offset; records = f.records }
-
 abbrev pub stand_of : Flow → Tables → List ℕ → Stand
-stand_of f t buffer = record { begun = f.begun; stopped = f.stopped; state = state_of (counts_of f) t; left = take f.waiting buffer }
+stand_of f t buffer = record { begun = f.begun; stopped = f.stopped; state = state_of f.counts t; left = take f.waiting buffer }
 
 -- the flow of a step, whose text is still to be written
 abbrev pub flow_of : Step → Flow
@@ -24,9 +20,7 @@ flow_of o =
       begun = o.stand.begun;
       stopped = o.stand.stopped;
       waiting = length o.stand.left;
-      calls = o.stand.state.calls;
-      offset = o.stand.state.offset;
-      records = o.stand.state.records;
+      counts = counts_in o.stand.state;
       end = length o.text;
     }
 
@@ -40,10 +34,10 @@ Started-one p q = p ∙ sym q
 -- `step`: what `stepped` says of the part from the waiting bytes up to `to`. What then waits stands at the buffer's front, and the text stands at
 -- the front of the output. Where a length or a number is unfit, nothing is done, and the tape is stopped
 abbrev pub halted_at : Flow → Flow
-halted_at f = record { begun = f.begun; stopped = true; waiting = f.waiting; calls = f.calls; offset = f.offset; records = f.records; end = 0 }
+halted_at f = record { begun = f.begun; stopped = true; waiting = f.waiting; counts = f.counts; end = 0 }
 
 abbrev pub unready : Flow → List ℕ → ℕ → Tables → List ℕ → Bool
-unready f buffer to t out = unfit_for buffer f.waiting to (counts_of f) t out
+unready f buffer to t out = unfit_for buffer f.waiting to f.counts t out
 
 abbrev pub Went : Step → List ℕ → List ℕ → Flow → List ℕ → Tables → List ℕ → Type 0
 Went o buffer out = Leaves (flow_of o) (at_front o.stand.left buffer) o.stand.state.tables (at_front o.text out)
@@ -64,7 +58,7 @@ Stepped-one {f} {buffer} {to} {t} {out} {r} {q} {b₁} {b₂} {t₁} {t₂} {o�
 
 -- `finish`: what is printed where the tape ends there, put into the output where it fits, and its length
 abbrev pub closing_of : Flow → List ℕ
-closing_of f = closing f.begun f.stopped f.waiting f.calls f.offset
+closing_of f = closing f.begun f.stopped f.waiting f.counts.calls f.counts.offset
 
 pub record Finished (f : Flow) (out : List ℕ) (r : ℕ) (out' : List ℕ) : Type 0 where
   pub size : r ≡ length (closing_of f)
@@ -80,4 +74,4 @@ pub record Goes (o : Step) (buffer out : List ℕ) (r : Flow) (buffer' : List �
 
 -- a flow that has read no version byte 1
 abbrev pub unbegun_at : Flow → Bool → ℕ → Flow
-unbegun_at f stopped end = record { begun = false; stopped = stopped; waiting = 0; calls = f.calls; offset = f.offset; records = f.records; end = end }
+unbegun_at f stopped end = record { begun = false; stopped = stopped; waiting = 0; counts = f.counts; end = end }

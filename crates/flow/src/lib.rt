@@ -6,13 +6,14 @@ ghost use Rattle.rules.specs.Lent.{lent_now, lent, left_tables};
 ghost use Rattle.tape.specs.Inner.{state_of};
 ghost use Rattle.tape.specs.Promises.{part, unfit_for};
 ghost use Rattle.flow.specs.Parts.{onward, opened};
-ghost use Rattle.flow.specs.Promises.{counts_of, unready, halted_at, unbegun_at, Goes, Started, Stepped, Finished};
+ghost use Rattle.flow.specs.Promises.{unready, Goes, Started, Stepped, Finished};
 
-use tape::{CALLS_FROM, Counts, FIRST_OFFSET, VERSION};
+use tape::{CALLS_FROM, Counts, Intake, OPENING, VERSION};
 use turns::Fault;
 
 // What is kept from one part of a tape to the next.
-#[derive(Clone, Copy)]
+// Two flags and no enum of stages: all four pairs occur, as a flow that is stopped keeps `begun` (`halted_at`).
+#[derive(Clone, Copy, Debug, PartialEq, Eq)]
 pub struct Flow {
     // The version byte was read, and was 1.
     pub begun: bool,
@@ -20,9 +21,7 @@ pub struct Flow {
     pub stopped: bool,
     // How many bytes wait at the buffer's front.
     pub waiting: usize,
-    pub calls: u64,
-    pub offset: u64,
-    pub records: u64,
+    pub counts: Counts,
     // Where the text of the last part ends in the output.
     pub end: usize,
 }
@@ -35,56 +34,14 @@ pub fn start() -> Flow
         begun: false,
         stopped: false,
         waiting: 0,
-        calls: 0,
-        offset: FIRST_OFFSET,
-        records: 0,
+        counts: OPENING,
         end: 0,
-    }
-}
-
-fn counts_of(f: Flow) -> Counts
-    ensures { result ≡ counts_of f }
-{
-    Counts {
-        calls: f.calls,
-        offset: f.offset,
-        records: f.records,
-    }
-}
-
-// The same flow, stopped.
-fn halted(f: Flow) -> Flow
-    ensures { result ≡ halted_at f }
-{
-    Flow {
-        begun: f.begun,
-        stopped: true,
-        waiting: f.waiting,
-        calls: f.calls,
-        offset: f.offset,
-        records: f.records,
-        end: 0,
-    }
-}
-
-// A flow that has read no version byte 1.
-fn unbegun(f: Flow, stopped: bool, end: usize) -> Flow
-    ensures { result ≡ unbegun_at f stopped end }
-{
-    Flow {
-        begun: false,
-        stopped,
-        waiting: 0,
-        calls: f.calls,
-        offset: f.offset,
-        records: f.records,
-        end,
     }
 }
 
 // Takes the calls of buf's bytes from `from` up to `to`.
 fn take_calls(
-    f: Flow,
+    k: Counts,
     buf: &mut [u8],
     from: usize,
     to: usize,
@@ -93,19 +50,22 @@ fn take_calls(
     seats: &mut [u64],
     out: &mut [u8],
 ) -> Flow
-    requires { unfit_for buf.old from to (counts_of f) (lent_now values.old words.old seats.old) out.old ≡ false }
-    ensures { Goes (onward (state_of (counts_of f) (lent values.old words.old seats.old)) (part buf.old from to)) buf.old out.old
+    requires { unfit_for buf.old from to k (lent_now values.old words.old seats.old) out.old ≡ false }
+    ensures { Goes (onward (state_of k (lent values.old words.old seats.old)) (part buf.old from to)) buf.old out.old
         result buf.new (left_tables values.new words.new seats.new) out.new }
 {
-    let r = tape::absorb(buf, from, to, counts_of(f), values, words, seats, out);
+    let Intake {
+        waiting,
+        counts,
+        end,
+        stopped,
+    } = tape::absorb(buf, from, to, k, values, words, seats, out);
     Flow {
         begun: true,
-        stopped: r.stopped,
-        waiting: r.waiting,
-        calls: r.calls,
-        offset: r.offset,
-        records: r.records,
-        end: r.end,
+        stopped,
+        waiting,
+        counts,
+        end,
     }
 }
 
@@ -120,17 +80,29 @@ fn open_tape(
     out: &mut [u8],
 ) -> Flow
     requires { unready f buf.old to (lent_now values.old words.old seats.old) out.old ≡ false }
-    ensures { Goes (opened (state_of (counts_of f) (lent values.old words.old seats.old)) (part buf.old 0 to)) buf.old out.old
+    ensures { Goes (opened (state_of f.counts (lent values.old words.old seats.old)) (part buf.old 0 to)) buf.old out.old
         result buf.new (left_tables values.new words.new seats.new) out.new }
 {
     if to == 0 {
-        return unbegun(f, false, 0);
+        return Flow {
+            begun: false,
+            stopped: false,
+            waiting: 0,
+            end: 0,
+            ..f
+        };
     }
     if buf[0] == VERSION {
-        return take_calls(f, buf, CALLS_FROM, to, values, words, seats, out);
+        return take_calls(f.counts, buf, CALLS_FROM, to, values, words, seats, out);
     }
     let end = turns::stop(out, 0, Fault::NoVersion, 0);
-    unbegun(f, true, end)
+    Flow {
+        begun: false,
+        stopped: true,
+        waiting: 0,
+        end,
+        ..f
+    }
 }
 
 // Takes a part of a tape: the first `to` bytes of buf are those that waited, and what was read behind them.
@@ -146,22 +118,24 @@ pub fn step(
     ensures { Stepped f buf.old to (lent values.old words.old seats.old) out.old
         result buf.new (left_tables values.new words.new seats.new) out.new }
 {
-    if tape::is_unfit(
+    let unfit = tape::is_unfit(
         buf.len(),
         f.waiting,
         to,
-        counts_of(f),
+        f.counts,
         values.len(),
         words.len(),
         out.len(),
-    ) {
-        return halted(f);
-    }
-    if f.stopped {
-        return halted(f);
+    );
+    if unfit || f.stopped {
+        return Flow {
+            stopped: true,
+            end: 0,
+            ..f
+        };
     }
     if f.begun {
-        return take_calls(f, buf, 0, to, values, words, seats, out);
+        return take_calls(f.counts, buf, 0, to, values, words, seats, out);
     }
     open_tape(f, buf, to, values, words, seats, out)
 }
@@ -174,7 +148,7 @@ pub fn finish(f: Flow, out: &mut [u8]) -> usize
         return 0;
     }
     if f.begun {
-        return tape::finish(out, 0, f.waiting == 0, f.calls, f.offset);
+        return tape::finish(out, 0, f.waiting == 0, f.counts.calls, f.counts.offset);
     }
     turns::stop(out, 0, Fault::NoVersion, 0)
 }

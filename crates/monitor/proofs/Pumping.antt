@@ -1,11 +1,5 @@
 -- The program's lengths and numbers make every step whole, and the next one too. Assumes nothing.
-use Prim.Native.Nat.{ℕ, ◌-◌, ◌≤◌, ◌<◌}
-use native.Mathlib.Omega.{arith}
-use mathlib.Core.Path.{◌≡◌, refl, ap, ◌∙◌}
-use mathlib.Core.Bool.{false}
-use mathlib.Core.List.{List, ◌++◌}
-use lib.ListN.{length, take, drop, length-drop, length-append}
-use lib.Seq.{length-take-le}
+use Rattle.std.proofs.Common.{ℕ, ◌-◌, ◌≤◌, arith, ◌≡◌, refl, ap, ◌∙◌, false, List, ◌++◌, length, take, drop, length-drop, length-append, length-take-le}
 use Rattle.rules.specs.Tables.{Tables}
 use Rattle.tape.specs.Lines.{opening}
 use Rattle.tape.specs.Promises.{part}
@@ -14,16 +8,12 @@ use Rattle.flow.specs.declared.Flow.{Flow}
 use Rattle.flow.specs.Parts.{Stand, Step, stepped}
 use Rattle.flow.specs.Promises.{stand_of, flow_of, unready, closing_of, Started, Stepped, Finished}
 use Rattle.flow.specs.Steps.{Held, held, closing_room}
-use Rattle.monitor.specs.Program.{input_length, output_length, most_turns, Proceeds, Asked, Pumped, Ended}
+use Rattle.monitor.specs.Program.{output_length, most_turns, Proceeds, Asked, Pumped, Ended}
 
 -- at the start, every turn is to come
 pub first_turn : {f : Flow} → Started f → Proceeds f most_turns
 unfolding opening
 first_turn e = rw e record { going = refl; roomy = omega arith; calls = omega arith; offset = omega arith; records = omega arith }
-
--- with a turn to come, there is one
-pub one_turn : {f : Flow} {turns : ℕ} → 0 < turns → Proceeds f turns → Proceeds f 1
-one_turn h g = record { going = g.going; roomy = g.roomy; calls = g.calls; offset = omega (arith, g.offset); records = g.records }
 
 module _ (f : Flow) (buffer : List ℕ) (to : ℕ) (t : Tables) (out : List ℕ) (asked : Asked f buffer to t out) where
   fine : unready f buffer to t out ≡ false
@@ -60,10 +50,10 @@ module _ (f : Flow) (buffer : List ℕ) (to : ℕ) (t : Tables) (out : List ℕ)
       let e : r ≡ flow_of o = (s.done fine).answer_is in
       let h : Held stand.state to o = rw all_bytes at (held stand (part buffer f.waiting to)) in
       let end : r.end ≡ length o.text = ap (λ (x : Flow). x.end) e in
-      let calls : r.calls ≡ o.stand.state.calls = ap (λ (x : Flow). x.calls) e in
-      let offset : r.offset ≡ o.stand.state.offset = ap (λ (x : Flow). x.offset) e in
+      let calls : r.counts.calls ≡ o.stand.state.calls = ap (λ (x : Flow). x.counts.calls) e in
+      let offset : r.counts.offset ≡ o.stand.state.offset = ap (λ (x : Flow). x.counts.offset) e in
       let waiting : r.waiting ≡ length o.stand.left = ap (λ (x : Flow). x.waiting) e in
-      let records : r.records ≡ o.stand.state.records = ap (λ (x : Flow). x.records) e in
+      let records : r.counts.records ≡ o.stand.state.records = ap (λ (x : Flow). x.counts.records) e in
       record {
         went = s.done fine;
         fits = omega (arith, h.fits, asked.within);
@@ -73,23 +63,10 @@ module _ (f : Flow) (buffer : List ℕ) (to : ℕ) (t : Tables) (out : List ℕ)
         records = omega (arith, h.records asked.proceeds.records);
       }
 
--- one turn fewer is to come
-pub next_turn : {f : Flow} {buffer : List ℕ} {to : ℕ} {t : Tables} {out : List ℕ} {r : Flow} {buffer' : List ℕ} {t' : Tables} {out' : List ℕ} (turns : ℕ)
-    → 0 < turns → Proceeds f turns → to ≤ input_length → Pumped f buffer to t out r buffer' t' out' → r.stopped ≡ false
-    → Proceeds r (turns - 1)
-next_turn turns h g within p e =
-    record {
-      going = e;
-      roomy = p.roomy e;
-      calls = p.calls;
-      offset = omega (arith, p.offset, g.offset);
-      records = p.records;
-    }
-
 -- the last line has room
 pub ended : (f : Flow) {out : List ℕ} {r : ℕ} {out' : List ℕ} → length out ≡ output_length → Finished f out r out' → Ended f out r out'
 ended f {out} h k =
-    let small = closing_room f.begun f.stopped f.waiting f.calls f.offset in
+    let small = closing_room f.begun f.stopped f.waiting f.counts.calls f.counts.offset in
     record {
       size = k.size;
       text = k.text ∙ put_front (closing_of f) out (omega arith);

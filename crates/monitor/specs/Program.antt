@@ -1,10 +1,10 @@
 -- What the program lends, and what its steps keep to.
-use Rattle.std.specs.Prelude.{ℕ, ◌+◌, ◌-◌, ◌*◌, ◌/◌, ◌≤◌, ◌<◌, ◌≡◌, false, List, length, take}
+use Rattle.std.specs.Prelude.{ℕ, ◌+◌, ◌-◌, ◌*◌, ◌/◌, ◌≤◌, ◌<◌, ◌≡◌, false, List, Result, IfOk, length, take}
 use Rattle.rules.specs.Layout.{most_records}
 use Rattle.rules.specs.Tables.{Tables}
 use Rattle.frames.specs.Decode.{longest}
 use Rattle.tape.specs.Promises.{at_front, part, far_off, room_for}
-use Rattle.monitor.specs.declared.Moved.{Moved}
+use Rattle.monitor.specs.declared.Failure.{Failure}
 use Rattle.flow.specs.declared.Flow.{Flow}
 use Rattle.flow.specs.Parts.{stepped}
 use Rattle.flow.specs.Promises.{stand_of, Went, closing_of}
@@ -30,9 +30,9 @@ most_turns = (far_off - 1) / input_length
 pub record Proceeds (f : Flow) (turns : ℕ) : Type 0 where
   pub going : f.stopped ≡ false
   pub roomy : f.waiting < input_length
-  pub calls : f.calls ≤ f.offset
-  pub offset : f.offset + f.waiting + input_length * turns ≤ far_off
-  pub records : f.records ≤ most_records
+  pub calls : f.counts.calls ≤ f.counts.offset
+  pub offset : f.counts.offset + f.waiting + input_length * turns ≤ far_off
+  pub records : f.counts.records ≤ most_records
 
 -- what a step asks for
 pub record Asked (f : Flow) (buffer : List ℕ) (to : ℕ) (t : Tables) (out : List ℕ) : Type 0 where
@@ -41,10 +41,14 @@ pub record Asked (f : Flow) (buffer : List ℕ) (to : ℕ) (t : Tables) (out : L
   pub behind : f.waiting ≤ to
   pub within : to ≤ input_length
 
--- what was read stands behind the bytes that wait
-pub record Fetched (buffer : List ℕ) (waiting : ℕ) (r : Moved) (buffer' : List ℕ) : Type 0 where
-  pub behind : waiting ≤ r.to
-  pub within : r.to ≤ length buffer
+-- where what was read, behind the bytes that wait, ends
+pub record Lies (buffer : List ℕ) (waiting to : ℕ) : Type 0 where
+  pub behind : waiting ≤ to
+  pub within : to ≤ length buffer
+
+-- the bytes that wait stay, also where nothing can be read
+pub record Fetched (buffer : List ℕ) (waiting : ℕ) (r : Result ℕ Failure) (buffer' : List ℕ) : Type 0 where
+  pub read : IfOk r (Lies buffer waiting)
   pub stays : take waiting buffer' ≡ take waiting buffer
 
 -- a part's step, done whole, and its numbers
@@ -53,9 +57,9 @@ pub record Pumped (f : Flow) (buffer : List ℕ) (to : ℕ) (t : Tables) (out : 
   pub went : Went (stepped (stand_of f t buffer) (part buffer f.waiting to)) buffer out r buffer' t' out'
   pub fits : r.end ≤ output_length
   pub roomy : r.stopped ≡ false → r.waiting < input_length
-  pub calls : r.calls ≤ r.offset
-  pub offset : r.offset + r.waiting ≤ f.offset + to
-  pub records : r.records ≤ most_records
+  pub calls : r.counts.calls ≤ r.counts.offset
+  pub offset : r.counts.offset + r.waiting ≤ f.counts.offset + to
+  pub records : r.counts.records ≤ most_records
 
 -- the last line, whole
 pub record Ended (f : Flow) (out : List ℕ) (r : ℕ) (out' : List ℕ) : Type 0 where

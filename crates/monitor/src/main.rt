@@ -1,15 +1,16 @@
 // Runs the tape on standard input, of any length, and prints its lines. The buffers are fixed, so memory does not grow with the tape.
 #![tactic(auto)]
 
-ghost use Rattle.std.specs.Prelude.{◌≡◌, ◌≤◌, ◌<◌, length};
+ghost use Rattle.std.specs.Prelude.{◌≡◌, ◌≤◌, ◌<◌, length, IfOk};
 ghost use Rattle.rules.specs.Lent.{lent_now, lent, left_tables};
 ghost use Rattle.monitor.specs.Program.{output_length, Buffers, Fetched, Asked, Pumped, Ended};
 
 use flow::Flow;
 use frames::LONGEST;
 use std::env::{Env, FillError};
-use std::io::{ErrorKind, Read, Write};
-use std::{io, thread};
+use std::error::Error;
+use std::io::{ErrorKind, Print, Read, Write};
+use std::{fmt, io, thread};
 use tape::FAR_OFF;
 use turns::{LAST_ROOM, LINE_ROOM};
 
@@ -22,17 +23,38 @@ const OUTPUT: usize = LINE_ROOM * INPUT + LAST_ROOM;
 // A proved loop has to end, and nothing says that the input does. So many turns, each of a full input buffer, keep every number below FAR_OFF.
 const TURNS: u64 = (FAR_OFF - 1) / (INPUT as u64);
 
-// What a read or a write came to: how far the bytes then go, and whether it failed.
-#[derive(Clone, Copy)]
-struct Moved {
-    to: usize,
-    failed: bool,
+// How the program is used.
+const USAGE: &str = "\
+usage: monitor < TAPE
+Plays a tape of calls, and prints a line to each: its number, a word, a number.
+The last line is 'end' and the number of calls, or 'stopped', the fault and its byte.
+A text tape is made into a tape by the program tape: tape encode my.txt | monitor
+The stack must have a megabyte.
+";
+
+// Why a tape is not played to its end.
+#[derive(Clone, Copy, Debug, PartialEq, Eq)]
+enum Failure {
+    Arguments,
+    Read,
+    Write,
+    TooLong,
 }
 
-// What goes wrong with the tape's bytes is told apart from the tape's lines.
-fn complain(rt: &HostRuntime, line: &[u8]) {
-    let _ = rt.stderr().write_all(line);
+impl fmt::Display for Failure {
+    fn fmt<W: fmt::Write>(&self, f: &mut fmt::Formatter<W>) -> fmt::Result {
+        f.write_str(match self {
+            Failure::Arguments => {
+                "it takes no arguments, only a tape on standard input; monitor --help tells more"
+            }
+            Failure::Read => "the tape can't be read",
+            Failure::Write => "the lines can't be written",
+            Failure::TooLong => "the tape is too long",
+        })
+    }
 }
+
+impl Error for Failure {}
 
 // Whether a read or a write that has just failed is to be made again: a signal came in between, or nothing was ready yet. Then others run first.
 fn may_try_again(error: io::Error) -> bool {
@@ -46,72 +68,52 @@ fn may_try_again(error: io::Error) -> bool {
     }
 }
 
-// Writes the bytes of out from `from` to `end` once, and answers how far it came, and whether it failed for good.
-fn write_once(rt: &HostRuntime, out: &[u8], from: usize, end: usize) -> Moved
-    requires from_le_end { from ≤ end }
-    requires end_in_bounds { end ≤ length out.now }
-    ensures from_le_to { from ≤ result.to }
-    ensures to_le_end { result.to ≤ end }
+// Writes some of the bytes, and answers how many; none where it is to be tried again.
+fn write_once(rt: &HostRuntime, bytes: &[u8]) -> Result<usize, Failure>
+    ensures { IfOk result (λ n. n ≤ length bytes.now) }
 {
-    match rt.stdout().write(&out[from..end]) {
-        Ok(n) => Moved {
-            to: from + n,
-            failed: n == 0,
-        },
-        Err(error) => Moved {
-            to: from,
-            failed: !may_try_again(error),
-        },
+    match rt.stdout().write(bytes) {
+        Ok(0) => Err(Failure::Write),
+        Ok(n) => Ok(n),
+        Err(error) => {
+            if may_try_again(error) {
+                Ok(0)
+            } else {
+                Err(Failure::Write)
+            }
+        }
     }
 }
 
-// Writes the first `end` bytes of out, and answers whether they could be written.
-fn put(rt: &HostRuntime, out: &[u8], end: usize) -> bool
-    requires { end ≤ length out.now }
-{
-    let mut done = 0;
-    let mut tries = TURNS;
-    while tries > 0 {
-        if done == end {
-            return true;
+// Writes all of the bytes.
+fn put(rt: &HostRuntime, bytes: &[u8]) -> Result<(), Failure> {
+    let mut rest = bytes;
+    for _ in 0..TURNS {
+        if rest.is_empty() {
+            return Ok(());
         }
-        let output = write_once(rt, out, done, end);
-        if output.failed {
-            break;
-        }
-        done = output.to;
-        tries -= 1;
+        let n = write_once(rt, rest)?;
+        rest = &rest[n..];
     }
-    complain(rt, b"monitor: the lines can't be written\n");
-    false
+    Err(Failure::Write)
 }
 
-// Reads behind the bytes that wait, which stay. There is room, so that no bytes are the end of the input.
-fn fetch(rt: &HostRuntime, buf: &mut [u8], waiting: usize) -> Moved
+// Reads behind the bytes that wait, which stay, and answers where the bytes then end. There is room, so that no bytes are the end of the input.
+fn fetch(rt: &HostRuntime, buf: &mut [u8], waiting: usize) -> Result<usize, Failure>
     requires { waiting < length buf.old }
     ensures { Fetched buf.old waiting result buf.new }
 {
-    let mut tries = TURNS;
-    while tries > 0 {
+    for _ in 0..TURNS {
         match rt.stdin().read(&mut buf[waiting..]) {
-            Ok(n) => {
-                return Moved {
-                    to: waiting + n,
-                    failed: false,
-                };
-            }
+            Ok(n) => return Ok(waiting + n),
             Err(error) => {
                 if !may_try_again(error) {
                     break;
                 }
             }
         }
-        tries -= 1;
     }
-    Moved {
-        to: waiting,
-        failed: true,
-    }
+    Err(Failure::Read)
 }
 
 // Takes what was read: the step is done whole.
@@ -147,111 +149,65 @@ fn play(
     words: &mut [u64],
     seats: &mut [u64],
     out: &mut [u8],
-)
+) -> Result<(), Failure>
     requires { Buffers buf.old (lent_now values.old words.old seats.old) out.old }
 {
     let mut f = flow::start();
-    let mut turns = TURNS;
-    while turns > 0 {
+    for _ in 0..TURNS {
         let waiting = f.waiting;
-        let input = fetch(rt, buf, waiting);
-        if input.failed {
-            complain(rt, b"monitor: the tape can't be read\n");
-            return;
-        }
-        let to = input.to;
+        let to = fetch(rt, buf, waiting)?;
         if to == waiting {
             let end = close(f, out);
-            put(rt, out, end);
-            return;
+            return put(rt, &out[..end]);
         }
         f = pump(f, buf, to, values, words, seats, out);
-        if !put(rt, out, f.end) {
-            return;
-        }
+        put(rt, &out[..f.end])?;
         if f.stopped {
-            return;
+            return Ok(());
         }
-        turns -= 1;
     }
-    complain(rt, b"monitor: the tape is too long\n");
+    Err(Failure::TooLong)
 }
 
-// The buffers say their own lengths; that these are the lengths that `play` asks for is shown where it is called.
-fn input_buffer() -> [u8; INPUT]
-    ensures { INPUT ≡ length result }
+// A buffer says its own length; that this is the length that `play` asks for is shown where it is called.
+fn buffer<const N: usize>() -> [u8; N]
+    ensures { N ≡ length result }
 {
-    [0; INPUT]
-}
-
-fn output_buffer() -> [u8; OUTPUT]
-    ensures { OUTPUT ≡ length result }
-{
-    [0; OUTPUT]
-}
-
-fn is_same(a: &[u8], b: &[u8]) -> bool {
-    let mut i = 0;
-    while i < a.len() {
-        if i >= b.len() {
-            return false;
-        }
-        if a[i] != b[i] {
-            return false;
-        }
-        i += 1;
-    }
-    i == b.len()
-}
-
-fn say(rt: &HostRuntime, line: &[u8]) {
-    let _ = rt.stdout().write_all(line);
-}
-
-fn tell_usage(rt: &HostRuntime) {
-    say(rt, b"usage: monitor < TAPE\n");
-    say(
-        rt,
-        b"Plays a tape of calls, and prints a line to each: its number, a word, a number.\n",
-    );
-    say(
-        rt,
-        b"The last line is 'end' and the number of calls, or 'stopped', the fault and its byte.\n",
-    );
-    say(
-        rt,
-        b"A text tape is made into a tape by the program tape: tape encode my.txt | monitor\n",
-    );
-    say(rt, b"The stack must have a megabyte.\n");
-}
-
-// There is no argument to take but the one that asks how the program is used. Its first bytes tell it.
-fn answer_arguments(rt: &HostRuntime, word: &[u8]) {
-    if is_same(word, b"--help") {
-        tell_usage(rt);
-    } else {
-        complain(
-            rt,
-            b"monitor: it takes no arguments, only a tape on standard input; monitor --help tells more\n",
-        );
-    }
+    [0; N]
 }
 
 // The tables and buffers are made, lent and played with.
-fn play_input(rt: &HostRuntime) {
-    let mut buf = input_buffer();
+fn play_input(rt: &HostRuntime) -> Result<(), Failure> {
+    let mut buf = buffer::<INPUT>();
     let mut values = [0u64; tape::RECORDS];
     let mut words = [0u64; tape::RECORDS];
     let mut seats = [0u64; tape::SEATS];
-    let mut out = output_buffer();
-    play(rt, &mut buf, &mut values, &mut words, &mut seats, &mut out);
+    let mut out = buffer::<OUTPUT>();
+    play(rt, &mut buf, &mut values, &mut words, &mut seats, &mut out)
 }
 
-fn main(rt: HostRuntime) {
+// There is no argument to take but the one that asks how the program is used.
+fn answer_argument(rt: &HostRuntime, word: &[u8]) -> Result<(), Failure> {
+    if word == b"--help".as_slice() {
+        let _ = rt.print(USAGE);
+        return Ok(());
+    }
+    Err(Failure::Arguments)
+}
+
+// An argument's first bytes tell it.
+fn run(rt: &HostRuntime) -> Result<(), Failure> {
     let mut word = [0u8; 8];
     match rt.arg(1, &mut word) {
-        Ok(n) => answer_arguments(&rt, &word[..n]),
-        Err(FillError::TooLong) => answer_arguments(&rt, &word),
-        Err(FillError::NotPresent) => play_input(&rt),
+        Ok(n) => answer_argument(rt, &word[..n]),
+        Err(FillError::TooLong) => answer_argument(rt, &word),
+        Err(FillError::NotPresent) => play_input(rt),
+    }
+}
+
+// What goes wrong is told apart from the tape's lines.
+fn main(rt: HostRuntime) {
+    if let Err(failure) = run(&rt) {
+        let _ = eprintln!(rt; "monitor: {failure}");
     }
 }

@@ -1,15 +1,8 @@
 -- A run over a part of a tape, turn by turn: sums that stop, and the text so far. Assumes nothing.
-use Prim.Native.Nat.{ℕ, ◌+◌, ◌-◌, ◌≤◌, ◌<◌}
-use native.Mathlib.Omega.{arith}
-use native.Mathlib.Nat.{add_assoc, add-zero}
-use mathlib.Core.Bool.{Bool, true, false, cond}
-use mathlib.Core.Path.{◌≡◌, refl, ap, sym, ◌∙◌}
-use mathlib.Core.Logic.{⊎_elim, ◌⊎◌, inl, inr}
-use mathlib.Core.List.{List, [], ◌++◌}
-use lib.Dec.{leb}
-use lib.ListN.{length, drop, length-append, drop_of_length-le}
-use lib.Seq.{sets, length-sets}
-use borrow.Author.Tests.{leb-true, leb-false, le-leb}
+use Rattle.std.proofs.Common.{ℕ, ◌+◌, ◌-◌, ◌≤◌, ◌<◌, arith, add_assoc, add-zero, Bool, true, false, cond, ◌≡◌, refl, ap, sym, ◌∙◌, ⊎_elim, ◌⊎◌, inl, inr, List, [], ◌++◌, leb, length, drop, length-append, leb-true, leb-false, le-leb, min, le_refl, length-drop, le_of_lt, take, take_all}
+use Rattle.std.proofs.Math.Nat.{min-eq_left, min-eq_right}
+use Rattle.std.proofs.Math.Seq.{length-sets}
+use Rattle.std.proofs.lemmas.List.Edits.{sets}
 use Rattle.text.specs.Text.{greatest, put_in}
 use Rattle.text.specs.Puts.{sets_at, put-fits}
 use Rattle.rules.specs.Tables.{Tables}
@@ -18,13 +11,16 @@ use Rattle.turns.specs.declared.Turn.{Turn}
 use Rattle.turns.specs.declared.Turn.TheVariants.{Wait, Said, Stop}
 use Rattle.turns.specs.Turns.{Turned, waits, stops, says}
 use Rattle.turns.specs.Promises.{Taken}
-use Rattle.turns.specs.Laws.{turn_nothing, put-nothing}
-use Rattle.tape.specs.declared.Extent.{Extent}
 use Rattle.tape.specs.Lines.{State, turn_from, further, Fed, ended, behind, fed}
-use Rattle.tape.specs.Inner.{capped, Ran}
-use Rattle.tape.specs.Runs.{turn_from_fits, fed_waits, fed_stops, fed_says}
+use Rattle.tape.specs.Inner.{counts_in, capped, Ran}
+use Rattle.tape.specs.Runs.{turn_from_fits, fed_waits, fed_stops, fed_says, fed_fuel}
 
 -- SUMS THAT STOP
+pub saturated : (a b : ℕ) → min (a + b) greatest ≡ capped a b
+saturated a b =
+    cond_ind (λ (m : ℕ). min (a + b) greatest ≡ m) (leb (a + b) greatest)
+    (λ e. min-eq_left (leb-true _ _ e)) (λ e. min-eq_right (le_of_lt (leb-false _ _ e)))
+
 abbrev Below : ℕ → ℕ → ℕ → Type 0
 Below a b m = (a + b ≤ greatest) × (m ≡ a + b)
 
@@ -37,6 +33,10 @@ capped_cases a b =
 
 pub capped_small : (a b : ℕ) → a + b ≤ greatest → capped a b ≡ a + b
 capped_small a b h = rw (le-leb (a + b) greatest h)
+
+capped_greatest : (a b : ℕ) → capped a b ≤ greatest
+capped_greatest a b =
+    ⊎_elim (λ (x : Below a b (capped a b)). omega arith) (λ (x : Above a b (capped a b)). omega arith) (capped_cases a b)
 
 pub capped_below : (a b m : ℕ) → capped a b ≡ m → m < greatest → a + b ≡ m
 capped_below a b m e h =
@@ -67,9 +67,6 @@ pub record Going (whole : Fed) (out₀ : List ℕ) (from : ℕ) (rest : Fed) (ou
   pub as_long : length out ≡ length out₀
   pub text : from + length whole.text ≤ length out₀ → sets out p rest.text ≡ sets out₀ from whole.text
 
-pub going_start : (f : Fed) (out : List ℕ) (from : ℕ) → Going f out from f out from
-going_start f out from = record { state = refl; left = refl; stopped = refl; size = refl; as_long = refl; text = λ h. refl }
-
 length-put : (l : List ℕ) (at : ℕ) (x : List ℕ) → length (put_in l at x) ≡ length l
 unfolding put_in
 length-put l at x = cond_ind (λ (m : List ℕ). length m ≡ length l) (leb (at + length x) (length l)) (λ _. length-sets l at x) (λ _. refl)
@@ -97,11 +94,12 @@ going_on whole out₀ from x rest out p h g =
           ∙ g.text i;
     }
 
--- A TURN THAT SAID A LINE, and where the run then stands
-pub record Onward (whole : Fed) (out₀ : List ℕ) (from n : ℕ) (s : State) (t : List ℕ) (used len lent p : ℕ) (t' : Tables) (out' : List ℕ) : Type 0 where
-  pub least : 2 ≤ used
-  pub within : used ≤ length t
-  pub going : Going whole out₀ from (fed (n - 1) (further s used lent t') (drop used t)) out' (capped p len)
+-- WHAT HOLDS WHERE A TURN IS TO COME, of a run over `part` that began at s₀ and stands at s, before the rest t
+pub record Stands (part : List ℕ) (s₀ : State) (out₀ : List ℕ) (s : State) (t out : List ℕ) (end : ℕ) : Type 0 where
+  pub offset : s.offset + length t ≡ s₀.offset + length part
+  pub calls : s.calls + length t ≤ s₀.calls + length part
+  pub small : end ≤ greatest
+  pub going : Going (fed (length part) s₀ part) out₀ 0 (fed (length t) s t) out end
 
 -- the code matches a turn's answer
 pub taken_as : {u : Turned} {t : Tables} {out : List ℕ} {at : ℕ} {r q : Turn} {t' : Tables} {out' : List ℕ}
@@ -117,12 +115,26 @@ turn_kind (Stop len) = 2
 other_turn : {A : Type 0} (r q : Turn) → r ≡ q → (turn_kind r ≡ turn_kind q → ⊥) → A
 other_turn r q e h = absurd (h (ap turn_kind e))
 
-module _ (whole : Fed) (out₀ : List ℕ) (from n : ℕ) (s : State) (t out : List ℕ) (p : ℕ) (t' : Tables) (out' : List ℕ) (used len lent : ℕ)
-    (enough : length t ≤ n) (short : length out₀ < greatest) (g : Going whole out₀ from (fed n s t) out p) where
-  pub said : Taken (turn_from s t) s.tables out p (Said used len lent) t' out' → Onward whole out₀ from n s t used len lent p t' out'
-  said = go (turn_from s t) refl
+-- A TURN THAT SAID A LINE, and where the run then stands
+pub record Onward (part : List ℕ) (s₀ : State) (out₀ : List ℕ) (s : State) (t : List ℕ) (end : ℕ) (t' : Tables) (out' : List ℕ)
+    (used len lent : ℕ) : Type 0 where
+  pub least : 2 ≤ used
+  pub within : used ≤ length t
+  pub stands : Stands part s₀ out₀ (further s used lent t') (drop used t) out' (capped end len)
+
+-- as the code has it: the rest is cut off, and the sum stops
+pub next_turn : {part : List ℕ} {s₀ : State} {out₀ : List ℕ} {s : State} {t : List ℕ} {end : ℕ} {t' : Tables} {out' : List ℕ}
+    {used len lent : ℕ} (n end' : ℕ) → Onward part s₀ out₀ s t end t' out' used len lent → length t - used ≤ n → end' ≡ min (end + len) greatest
+    → Stands part s₀ out₀ (further s used lent t') (take n (drop used t)) out' end'
+next_turn {t} {end} {used} {len} n end' o h e =
+    rw (take_all n (drop used t) (omega (arith, length-drop used t)), e ∙ saturated end len) o.stands
+
+module _ (part : List ℕ) (s₀ : State) (out₀ : List ℕ) (s : State) (t out : List ℕ) (end : ℕ) (t' : Tables) (out' : List ℕ)
+    (short : length out₀ < greatest) (g : Stands part s₀ out₀ s t out end) where
+  pub said : (used len lent : ℕ) → Taken (turn_from s t) s.tables out end (Said used len lent) t' out' → Onward part s₀ out₀ s t end t' out' used len lent
+  said used len lent = go (turn_from s t) refl
     where
-      go : (u : Turned) → turn_from s t ≡ u → Taken u s.tables out p (Said used len lent) t' out' → Onward whole out₀ from n s t used len lent p t' out'
+      go : (u : Turned) → turn_from s t ≡ u → Taken u s.tables out end (Said used len lent) t' out' → Onward part s₀ out₀ s t end t' out' used len lent
       go waits e k = other_turn _ _ k.turn (λ z. omega arith)
       go (stops x) e k = other_turn _ _ k.turn (λ z. omega arith)
       go (says x u records t'') e k =
@@ -131,68 +143,62 @@ module _ (whole : Fed) (out₀ : List ℕ) (from n : ℕ) (s : State) (t out : L
           let el : len ≡ length x = cc in
           let er : lent ≡ records = cc in
           let d = turn_from_fits s t e in
-          let g' : Going whole out₀ from (behind x (fed (n - 1) (further s u records t'') (drop u t))) out p =
-          rw (fed_says n s t x u records t'' e enough) at g in
+          let n : length (drop u t) ≡ length t - u = length-drop u t in
+          let next : State = further s u records t'' in
+          let f : fed (length t) s t ≡ behind x (fed (length (drop u t)) next (drop u t)) =
+          fed_says (length t) s t x u records t'' e (le_refl _)
+          ∙ ap (behind x) (fed_fuel (length t - 1) (length (drop u t)) next (drop u t) (omega (arith, d.least, d.within)) (le_refl _)) in
+          let g' : Going (fed (length part) s₀ part) out₀ 0 (behind x (fed (length (drop u t)) next (drop u t))) out end = rw f at g.going in
           record {
             least = omega (arith, d.least);
             within = omega (arith, d.within);
-            going = rw (er, k.tables, el, eu, k.text) (going_on whole out₀ from x (fed (n - 1) (further s u records t'') (drop u t)) out p short g');
+            stands =
+                rw (er, k.tables, el, eu, k.text)
+                record {
+                  offset = omega (arith, g.offset, n, d.within);
+                  calls = omega (arith, g.calls, n, d.least, d.within);
+                  small = capped_greatest end (length x);
+                  going = going_on (fed (length part) s₀ part) out₀ 0 x (fed (length (drop u t)) next (drop u t)) out end short g';
+                };
           }
 
--- A RUN THAT ENDS, at place `used` of its part
-abbrev pub extent : ℕ → State → ℕ → Bool → Extent
-extent used s end stopped = record { used = used; calls = s.calls; records = s.records; end = end; stopped = stopped }
-
-module _ (whole : Fed) (part : List ℕ) (offset from : ℕ) (out₀ : List ℕ) (n used : ℕ) (s : State) (p : ℕ) (out : List ℕ) (t' : Tables) (out' : List ℕ)
-    (enough : length (drop used part) ≤ n) (short : length out₀ < greatest) (small : p ≤ greatest) (within : used ≤ length part)
-    (at : offset + used ≡ s.offset) (g : Going whole out₀ from (fed n s (drop used part)) out p) where
-  ran : (x : List ℕ) (b : Bool) (q : ℕ) → fed n s (drop used part) ≡ ended x s (drop used part) b
-      → t' ≡ s.tables → out' ≡ put_in out p x → q ≡ capped p (length x) → Ran whole part offset from out₀ (extent used s q b) t' out'
+  -- A RUN THAT ENDS
+  ran : (x : List ℕ) (b : Bool) (q : ℕ) → fed (length t) s t ≡ ended x s t b → t' ≡ s.tables → out' ≡ put_in out end x → q ≡ capped end (length x)
+      → Ran (fed (length part) s₀ part) out₀ (record { waiting = length t; counts = counts_in s; end = q; stopped = b }) t' out'
   ran x b q e same eo eq =
-      let d : Going whole out₀ from (ended x s (drop used part) b) out p = rw e at g in
+      let d : Going (fed (length part) s₀ part) out₀ 0 (ended x s t b) out end = rw e at g.going in
       record {
-        used = within;
-        rest = d.left;
-        at = at ∙ ap (λ (z : State). z.offset) d.state;
-        calls = ap (λ (z : State). z.calls) d.state;
-        records = ap (λ (z : State). z.records) d.state;
-        stopped = d.stopped;
-        end = eq ∙ d.size;
-        tables = same ∙ ap (λ (z : State). z.tables) d.state;
-        text = λ i.
-            let k : p + length x ≡ from + length whole.text = place_of_lem p _ from _ d.size (omega arith) in
-            let r : length out ≡ length out₀ = d.as_long in
-            eo ∙ sym (put-fits out p x (omega arith)) ∙ d.text i;
+        answer_is = rw (← d.left, ← d.state, ← d.stopped, eq ∙ d.size);
+        tables_are = same ∙ ap (λ (z : State). z.tables) d.state;
+        lines =
+            record {
+              end = eq ∙ d.size;
+              text = λ i.
+                  let k : end + length x ≡ 0 + length (fed (length part) s₀ part).text = place_of_lem end _ 0 _ d.size (omega arith) in
+                  let r : length out ≡ length out₀ = d.as_long in
+                  eo ∙ sym (put-fits out end x (omega arith)) ∙ d.text (omega arith);
+            };
       }
 
-  pub ran_waits : Taken (turn_from s (drop used part)) s.tables out p Wait t' out' → Ran whole part offset from out₀ (extent used s p false) t' out'
-  ran_waits = go (turn_from s (drop used part)) refl
+  pub ran_waits : Taken (turn_from s t) s.tables out end Wait t' out'
+      → Ran (fed (length part) s₀ part) out₀ (record { waiting = length t; counts = counts_in s; end = end; stopped = false }) t' out'
+  ran_waits = go (turn_from s t) refl
     where
-      go : (u : Turned) → turn_from s (drop used part) ≡ u → Taken u s.tables out p Wait t' out'
-          → Ran whole part offset from out₀ (extent used s p false) t' out'
-      go waits e k = ran [] false p (fed_waits n s (drop used part) e) k.tables k.text (sym (capped_small p 0 (omega arith) ∙ add-zero p))
+      go : (u : Turned) → turn_from s t ≡ u → Taken u s.tables out end Wait t' out'
+          → Ran (fed (length part) s₀ part) out₀ (record { waiting = length t; counts = counts_in s; end = end; stopped = false }) t' out'
+      go waits e k = ran [] false end (fed_waits (length t) s t e) k.tables k.text (sym (capped_small end 0 (omega (arith, g.small)) ∙ add-zero end))
       go (stops x) e k = other_turn _ _ k.turn (λ z. omega arith)
       go (says x u records t'') e k = other_turn _ _ k.turn (λ z. omega arith)
 
-  pub ran_stops : (len q : ℕ) → Taken (turn_from s (drop used part)) s.tables out p (Stop len) t' out' → q ≡ capped p len
-      → Ran whole part offset from out₀ (extent used s q true) t' out'
-  ran_stops len q = go (turn_from s (drop used part)) refl
+  pub ran_stops : (len q : ℕ) → Taken (turn_from s t) s.tables out end (Stop len) t' out' → q ≡ capped end len
+      → Ran (fed (length part) s₀ part) out₀ (record { waiting = length t; counts = counts_in s; end = q; stopped = true }) t' out'
+  ran_stops len q = go (turn_from s t) refl
     where
-      go : (u : Turned) → turn_from s (drop used part) ≡ u → Taken u s.tables out p (Stop len) t' out' → q ≡ capped p len
-          → Ran whole part offset from out₀ (extent used s q true) t' out'
+      go : (u : Turned) → turn_from s t ≡ u → Taken u s.tables out end (Stop len) t' out' → q ≡ capped end len
+          → Ran (fed (length part) s₀ part) out₀ (record { waiting = length t; counts = counts_in s; end = q; stopped = true }) t' out'
       go waits e k eq = other_turn _ _ k.turn (λ z. omega arith)
       go (stops x) e k eq =
-          let t = k.turn in
+          let tt = k.turn in
           let el : len ≡ length x = cc in
-          ran x true q (fed_stops n s (drop used part) x e enough) k.tables k.text (eq ∙ ap (λ (m : ℕ). capped p m) el)
+          ran x true q (fed_stops (length t) s t x e (le_refl _)) k.tables k.text (eq ∙ ap (λ (m : ℕ). capped end m) el)
       go (says x u records t'') e k eq = other_turn _ _ k.turn (λ z. omega arith)
-
--- at the end of the part
-pub ran_all : (whole : Fed) (part : List ℕ) (offset from : ℕ) (out₀ : List ℕ) (n used : ℕ) (s : State) (p : ℕ) (out : List ℕ)
-    → length out₀ < greatest → p ≤ greatest → used ≤ length part → length part ≤ used → offset + used ≡ s.offset
-    → Going whole out₀ from (fed n s (drop used part)) out p → Ran whole part offset from out₀ (extent used s p false) s.tables out
-ran_all whole part offset from out₀ n used s p out short small within done at g =
-    let e : drop used part ≡ [] = drop_of_length-le part {i = used} done in
-    let w : turn_from s (drop used part) ≡ waits = rw e (turn_nothing (s.calls + 1) s.offset s.records s.tables) in
-    ran_waits whole part offset from out₀ n used s p out s.tables out (omega (arith, ap length e)) short small within at g
-    (rw w record { turn = refl; tables = refl; text = put-nothing out p })

@@ -1,36 +1,28 @@
 -- The whole tape: its calls and its last line, and the lines in a buffer. Assumes nothing.
-use Prim.Native.Nat.{ℕ, ◌+◌, ◌≤◌, ◌<◌}
-use native.Mathlib.Omega.{arith}
-use native.Mathlib.Nat.{zero-add}
-use mathlib.Core.Bool.{Bool, true, false}
-use mathlib.Core.Path.{◌≡◌, refl, ap, sym, ◌∙◌}
-use mathlib.Core.List.{List, [], ◌∷◌, ◌++◌, append-nil}
-use lib.Dec.{eqb}
-use lib.ListN.{length, drop, get_or, length-drop, length-append}
-use lib.Seq.{sets}
-use borrow.Author.Tests.{eq-eqb, ne_eqb, eqb-true, eqb-false, le-leb, lt-leb}
+use Rattle.std.proofs.Common.{ℕ, ◌+◌, ◌≤◌, ◌<◌, arith, zero-add, min, true, false, ◌≡◌, ap, sym, ◌∙◌, List, [], ◌∷◌, ◌++◌, append-nil, eqb, length, drop, get_or, length-append, eq-eqb, ne_eqb, le-leb, take}
+use Rattle.std.proofs.lemmas.List.Edits.{sets}
 use Rattle.text.specs.Text.{greatest, bytes, last_line, put_in, Appended}
 use Rattle.text.specs.Puts.{sets_at, put-fits}
 use Rattle.rules.specs.Tables.{Tables}
 use Rattle.turns.specs.Faults.{no_version, cut_short, stop_line}
-use Rattle.tape.specs.declared.Extent.{Extent}
+use Rattle.tape.specs.declared.Intake.{Intake}
 use Rattle.tape.specs.Lines.{Fed, fed, end_line, last_of, version, first_offset, opening, call_lines, lines_of}
 use Rattle.tape.specs.Inner.{capped, Ran, LinesIn}
 use Rattle.tape.specs.Promises.{Written, Closed}
 use Rattle.tape.specs.Room.{sets-front}
-use Rattle.tape.proofs.Running.{capped_small, capped_below, capped_sum}
+use Rattle.tape.proofs.Running.{saturated, capped_small, capped_below, capped_sum}
 
 -- THE LAST LINE: a text that was appended, and where it ends
-closed : {out xs : List ℕ} {at len r : ℕ} {out' : List ℕ} → Appended out at xs len out' → r ≡ capped at len → Closed out at xs r out'
-closed {at = at} p e = record { end = e ∙ ap (λ (m : ℕ). capped at m) p.size; text = p.text }
+closed : {out xs : List ℕ} {at len r : ℕ} {out' : List ℕ} → Appended out at xs len out' → r ≡ min (at + len) greatest → Closed out at xs r out'
+closed {at = at} p e = record { end = e ∙ saturated at _ ∙ ap (λ (m : ℕ). capped at m) p.size; text = p.text }
 
 pub ends : (calls offset : ℕ) {out : List ℕ} {at len r : ℕ} {out' : List ℕ} → Appended out at (last_line (bytes "end") calls) len out'
-    → r ≡ capped at len → Closed out at (end_line true calls offset) r out'
+    → r ≡ min (at + len) greatest → Closed out at (end_line true calls offset) r out'
 unfolding end_line
 ends calls offset p e = closed p e
 
 pub cut_short_lem : (calls offset : ℕ) {out : List ℕ} {at len r : ℕ} {out' : List ℕ} → Appended out at (stop_line cut_short offset) len out'
-    → r ≡ capped at len → Closed out at (end_line false calls offset) r out'
+    → r ≡ min (at + len) greatest → Closed out at (end_line false calls offset) r out'
 unfolding end_line
 cut_short_lem calls offset p e = closed p e
 
@@ -47,38 +39,31 @@ end_lines : (part : List ℕ) → (ran part).stopped ≡ false
 unfolding call_lines last_of
 end_lines part e = rw e
 
-all_read : (u : ℕ) (l : List ℕ) → u ≤ length l → eqb u (length l) ≡ eqb (length (drop u l)) 0
-all_read u l h = go (eqb u (length l)) refl
-  where
-    go : (t : Bool) → eqb u (length l) ≡ t → t ≡ eqb (length (drop u l)) 0
-    go true e = sym (eq-eqb (length (drop u l)) 0 (omega (arith, length-drop u l, eqb-true u (length l) e)))
-    go false e = sym (ne_eqb (length (drop u l)) 0 (λ z. eqb-false u (length l) e (omega (arith, length-drop u l))))
-
-module _ (part out₀ : List ℕ) (r : Extent) (t : Tables) (buffer : List ℕ) (short : length out₀ < greatest)
-    (d : Ran (ran part) part first_offset 0 out₀ r t buffer) where
+module _ (part out₀ : List ℕ) (r : Intake) (t : Tables) (buffer : List ℕ) (short : length out₀ < greatest)
+    (d : Ran (ran part) out₀ r t buffer) where
   pub calls_stopped : r.stopped ≡ true → LinesIn (call_lines part) out₀ r.end buffer
   calls_stopped e =
-      let k : call_lines part ≡ (ran part).text = stop_lines part (sym d.stopped ∙ e) in
-      rw k (record { end = d.end; text = λ i. d.text (omega arith) })
+      let k : call_lines part ≡ (ran part).text = stop_lines part (sym (ap (λ (x : Intake). x.stopped) d.answer_is) ∙ e) in
+      rw k d.lines
 
   pub calls_end : (q : ℕ) (out : List ℕ) → r.stopped ≡ false → length buffer ≡ length out₀
-      → Closed buffer r.end (end_line (eqb r.used (length part)) r.calls (first_offset + r.used)) q out → LinesIn (call_lines part) out₀ q out
+      → Closed buffer r.end (end_line (eqb r.waiting 0) r.counts.calls r.counts.offset) q out → LinesIn (call_lines part) out₀ q out
   calls_end q out e same c =
       let f : Fed = ran part in
       let last : List ℕ = end_line (eqb (length f.left) 0) f.state.calls f.state.offset in
-      let k : call_lines part ≡ f.text ++ last = end_lines part (sym d.stopped ∙ e) in
-      let x : end_line (eqb r.used (length part)) r.calls (first_offset + r.used) ≡ last =
-      rw (all_read r.used part d.used, d.rest, d.calls, d.at) in
+      let k : call_lines part ≡ f.text ++ last = end_lines part (sym (ap (λ (x : Intake). x.stopped) d.answer_is) ∙ e) in
+      let x : end_line (eqb r.waiting 0) r.counts.calls r.counts.offset ≡ last =
+      ap (λ (y : Intake). end_line (eqb y.waiting 0) y.counts.calls y.counts.offset) d.answer_is in
       let a : length (f.text ++ last) ≡ length f.text + length last = length-append f.text last in
       rw k
       (record {
         end =
-            c.end ∙ ap (λ (y : List ℕ). capped r.end (length y)) x ∙ ap (λ (m : ℕ). capped m (length last)) d.end
+            c.end ∙ ap (λ (y : List ℕ). capped r.end (length y)) x ∙ ap (λ (m : ℕ). capped m (length last)) d.lines.end
             ∙ capped_sum 0 (length f.text) (length last) ∙ ap (λ (m : ℕ). capped 0 m) (sym a);
         text = λ i.
-            let ro : r.end ≡ 0 + length f.text = d.end ∙ capped_small 0 (length f.text) (omega arith) in
+            let ro : r.end ≡ 0 + length f.text = d.lines.end ∙ capped_small 0 (length f.text) (omega arith) in
             c.text ∙ ap (λ (y : List ℕ). put_in buffer r.end y) x ∙ sym (put-fits buffer r.end last (omega arith))
-            ∙ ap (λ (l : List ℕ). sets l r.end last) (d.text (omega arith))
+            ∙ ap (λ (l : List ℕ). sets l r.end last) (d.lines.text (omega arith))
             ∙ sets_at out₀ 0 r.end f.text last ro;
       })
 
@@ -91,9 +76,14 @@ lines_not : (t : List ℕ) → (get_or t 0 0 ≡ version → ⊥) → lines_of t
 unfolding lines_of
 lines_not t e = rw (ne_eqb (get_or t 0 0) version e)
 
-pub no_byte : (t : List ℕ) → length t ≤ 0 → get_or t 0 0 ≡ version → ⊥
-no_byte [] h e = omega arith
-no_byte (x ∷ t) h e = omega arith
+-- as the code tests it
+pub version_here : (t : List ℕ) → take 1 t ≡ version ∷ [] → get_or t 0 0 ≡ version
+version_here [] e = ap (λ (l : List ℕ). get_or l 0 0) e
+version_here (x ∷ t) e = ap (λ (l : List ℕ). get_or l 0 0) e
+
+pub version_not : (t : List ℕ) → (take 1 t ≡ version ∷ [] → ⊥) → get_or t 0 0 ≡ version → ⊥
+version_not [] h e = omega arith
+version_not (x ∷ t) h e = h (ap (λ (y : ℕ). y ∷ []) e)
 
 pub lines_bad : (t out : List ℕ) (n : ℕ) (out' : List ℕ) → (get_or t 0 0 ≡ version → ⊥) → n ≤ greatest
     → Appended out 0 (stop_line no_version 0) n out' → LinesIn (lines_of t) out n out'
@@ -106,10 +96,6 @@ lines_bad t out n out' bad small p =
     })
 
 -- THE LINES IN A BUFFER
-pub nothing_of : (l : List ℕ) → length l ≤ 0 → l ≡ []
-nothing_of [] h = refl
-nothing_of (x ∷ l) h = absurd (omega arith)
-
 pub run_fits : (t buffer : List ℕ) (n : ℕ) (out : List ℕ) → n ≡ capped 0 (length (lines_of t)) → n ≤ length buffer → length buffer < greatest
     → (length (lines_of t) ≤ length buffer → out ≡ sets buffer 0 (lines_of t)) → Written t buffer n out
 run_fits t buffer n out e h s f =
@@ -119,13 +105,3 @@ run_fits t buffer n out e h s f =
       count = rw (le-leb (length (lines_of t)) (length buffer) i) (omega arith);
       buffer = rw (le-leb (length (lines_of t)) (length buffer) i) (f i ∙ sets-front (lines_of t) buffer i);
     }
-
-pub run-not : (t buffer : List ℕ) (n : ℕ) → n ≡ capped 0 (length (lines_of t)) → length buffer < n → length buffer < greatest
-    → Written t buffer greatest buffer
-run-not t buffer n e h s = let no_room = lt-leb (length (lines_of t)) (length buffer) over in record { count = rw no_room; buffer = rw no_room }
-  where
-    small : length (lines_of t) ≤ length buffer → ⊥
-    small l = let z = capped_small 0 (length (lines_of t)) (omega arith) in omega arith
-
-    over : length buffer < length (lines_of t)
-    over = omega (arith, small)

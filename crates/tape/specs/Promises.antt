@@ -10,7 +10,7 @@ use Rattle.turns.specs.Turns.{line_room, last_room}
 use Rattle.tape.specs.declared.Intake.{Intake}
 use Rattle.tape.specs.declared.Counts.{Counts}
 use Rattle.tape.specs.Lines.{Fed, fed, lines_of}
-use Rattle.tape.specs.Inner.{state_of, capped}
+use Rattle.tape.specs.Inner.{state_of, counts_in, capped}
 
 -- bytes at the front of a buffer, whose other bytes stay
 abbrev pub at_front : List ℕ → List ℕ → List ℕ
@@ -71,15 +71,13 @@ abbrev pub intake_of : Fed → Intake
 intake_of f =
     record {
       waiting = length f.left;
-      calls = f.state.calls;
-      offset = f.state.offset;
-      records = f.state.records;
+      counts = counts_in f.state;
       end = length f.text;
       stopped = f.stopped;
     }
 
 abbrev pub halted : Counts → Intake
-halted k = record { waiting = 0; calls = k.calls; offset = k.offset; records = k.records; end = 0; stopped = true }
+halted k = record { waiting = 0; counts = k; end = 0; stopped = true }
 
 -- an answer, and what is left of the buffer, the tables and the output that were lent
 pub record Leaves {R : Type 0} (answer : R) (buffer : List ℕ) (t : Tables) (out : List ℕ) (r : R) (buffer' : List ℕ) (t' : Tables) (out' : List ℕ)

@@ -1,9 +1,9 @@
 -- What callers may rest on: how much room lines need, and when a buffer's front is fit to be absorbed. Assumes nothing.
-use Rattle.std.specs.Prelude.{ℕ, zero, suc, ◌-◌, ◌≤◌, ◌≡◌, Bool, true, false, List, [], ◌∷◌, ◌++◌, length, take, drop}
-use Rattle.std.proofs.Common.{arith, zero-add, ap, sym, ◌∙◌, length-drop, length-append}
+use Rattle.std.specs.Prelude.{ℕ, ◌+◌, ◌-◌, ◌≤◌, ◌≡◌, Bool, true, false, List, ◌++◌, length, take, drop}
+use Rattle.std.proofs.Common.{arith, zero-add, ap, sym, ◌∙◌, length-drop, length-append, le-ltb, eq-eqb, ltb-false, eqb-true}
 use Rattle.std.proofs.lemmas.List.Edits.{sets, sets-eq}
-use Rattle.std.proofs.Math.Seq.{take-nil}
-use borrow.Author.Tests.{le-ltb, eq-eqb, ltb-false, eqb-true, not-false}
+use Rattle.std.proofs.lemmas.List as L
+use Rattle.std.proofs.lemmas.Bool.{not-false}
 use Rattle.text.specs.Text.{width_of, width_in, bytes, put_in}
 use Rattle.text.specs.Puts.{length_last, put-fits}
 use Rattle.rules.specs.Layout.{most_records}
@@ -45,11 +45,7 @@ put_front xs l h = sym (put-fits l 0 xs (omega arith)) ∙ sets-front xs l h
 
 -- a part's part
 pub drop-take : (l : List ℕ) (a b : ℕ) → a ≤ b → drop a (take b l) ≡ take (b - a) (drop a l)
-drop-take l zero b h = let e : b ≡ b - 0 = omega arith in ap (λ (m : ℕ). take m l) e
-drop-take [] (suc a) zero h = sym (take-nil (0 - suc a))
-drop-take [] (suc a) (suc b) h = sym (take-nil (suc b - suc a))
-drop-take (x ∷ l) (suc a) zero h = absurd (omega arith)
-drop-take (x ∷ l) (suc a) (suc b) h = let e : suc b - suc a ≡ b - a = omega arith in rw e (drop-take l a b (omega arith))
+drop-take l a b h = let e : b ≡ a + (b - a) = omega arith in ap (λ (n : ℕ). drop a (take n l)) e ∙ L.drop-take a (b - a) l
 
 -- A BUFFER'S FRONT that is fit to be absorbed, and one that is not unfit, are the same
 pub record Fit (buffer from to : ℕ) (k : Counts) (values words out : ℕ) : Type 0 where

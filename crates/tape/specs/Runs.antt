@@ -1,6 +1,7 @@
 -- What callers may rest on: how a run over a part of a tape goes on, turn by turn, and what it comes to. Assumes nothing.
 use Rattle.std.specs.Prelude.{ℕ, zero, suc, ◌+◌, ◌-◌, ◌≤◌, ◌<◌, true, false, ◌≡◌, refl, List, [], length, drop, get_or}
-use Rattle.std.proofs.Common.{arith, true≢false, length-drop}
+use Rattle.std.proofs.Common.{arith, ap, sym, ◌∙◌, true≢false, length-drop, drop-drop}
+use Rattle.std.proofs.Math.Nat.{sub_self}
 use Rattle.rules.specs.Layout.{most_records}
 use Rattle.rules.specs.Tables.{Tables}
 use Rattle.frames.specs.Decode.{byte_span, longest}
@@ -52,6 +53,39 @@ module _ (P : State → List ℕ → Fed → Type 0)
           let d : suc n - 1 ≡ n = omega arith in
           rw (fed_says (suc n) s t x used records t' e h, d)
           (saying s t x used records t' _ e (ih (further s used records t') (drop used t) (omega (arith, length-drop used t, g.least))))
+
+-- THE FUEL does not matter where it is enough
+abbrev AnyFuel : State → List ℕ → Fed → Type 0
+AnyFuel s t o = (g : ℕ) → length t ≤ g → o ≡ fed g s t
+
+fuel_says : (s : State) (t x : List ℕ) (used records : ℕ) (t' : Tables) (o : Fed) → turn_from s t ≡ says x used records t'
+    → AnyFuel (further s used records t') (drop used t) o → AnyFuel s t (behind x o)
+fuel_says s t x used records t' o e ih g h =
+    let z = turn_from_fits s t e in
+    ap (behind x) (ih (g - 1) (omega (arith, z.least, length-drop used t))) ∙ sym (fed_says g s t x used records t' e h)
+
+pub fed_fuel : (f g : ℕ) (s : State) (t : List ℕ) → length t ≤ f → length t ≤ g → fed f s t ≡ fed g s t
+fed_fuel f g s t h i =
+    fed_ind AnyFuel (λ s t e g h. sym (fed_waits g s t e)) (λ s t x e g h. sym (fed_stops g s t x e h)) fuel_says f s t h g i
+
+-- WHAT IS LEFT is the end of what there was
+abbrev Ends : State → List ℕ → Fed → Type 0
+Ends s t o = o.left ≡ drop (length t - length o.left) t
+
+ends_here : (t : List ℕ) → t ≡ drop (length t - length t) t
+ends_here t = rw sub_self
+
+ends_says : (s : State) (t x : List ℕ) (used records : ℕ) (t' : Tables) (o : Fed) → turn_from s t ≡ says x used records t'
+    → Ends (further s used records t') (drop used t) o → Ends s t (behind x o)
+ends_says s t x used records t' o e h =
+    let k = turn_from_fits s t e in
+    let n = length-drop used t in
+    let m : length o.left ≡ length (drop used t) - (length (drop used t) - length o.left) =
+    ap length h ∙ length-drop (length (drop used t) - length o.left) (drop used t) in
+    h ∙ drop-drop (length (drop used t) - length o.left) used t ∙ ap (λ (i : ℕ). drop i t) (omega (arith, n, m, k.within))
+
+pub left_is_end : (n : ℕ) (s : State) (t : List ℕ) → length t ≤ n → (fed n s t).left ≡ drop (length t - length (fed n s t).left) t
+left_is_end = fed_ind Ends (λ s t e. ends_here t) (λ s t x e. ends_here t) ends_says
 
 -- WHAT IT COMES TO: what it took is counted, and where it is not stopped, what is left waits for more
 pub record Grown (s : State) (t : List ℕ) (o : Fed) : Type 0 where

@@ -1,5 +1,5 @@
 -- `flow::finish` meets its contract. Assumes nothing.
-use mathlib.Core.Path.{refl}
+use Rattle.std.proofs.Common.{refl}
 use Rattle.flow.proofs.Fronts.{ends_stopped, ends-begun, ends_unbegun}
 use Rattle.flow.proofs.finish.Goals as goal
 

@@ -1,5 +1,5 @@
 -- `flow::open_tape` meets its contract. Assumes nothing.
-use native.Mathlib.Omega.{arith}
+use Rattle.std.proofs.Common.{arith}
 use Rattle.tape.specs.Lines.{first_offset}
 use Rattle.tape.specs.Room.{fit}
 use Rattle.flow.proofs.Fronts.{fit_from, waits_on, calls_behind, other_version}
@@ -16,7 +16,7 @@ take_calls-requires c =
 -- no byte yet
 pub returns-then-to-eq0 : goal.returns-then-to-eq0
 returns-then-to-eq0 c =
-    waits_on c.args.f _ _ _ _ c.requires c.if-to-eq0.true c.unbegun.ensures
+    waits_on c.args.f _ _ _ _ c.requires c.if-to-eq0.true
 
 -- a version byte 1
 pub returns-then-buf-eq-VERSION : goal.returns-then-buf-eq-VERSION
@@ -26,4 +26,4 @@ returns-then-buf-eq-VERSION c =
 -- another
 pub returns : goal.returns
 returns c =
-    other_version c.args.f _ _ _ _ c.requires (omega arith) c.if-buf-eq-VERSION.false c.stop-end.ensures c.unbegun-2.ensures
+    other_version c.args.f _ _ _ _ c.requires (omega arith) c.if-buf-eq-VERSION.false c.stop-end.ensures

@@ -1,5 +1,5 @@
 -- `flow::start` meets its contract. Assumes nothing.
-use mathlib.Core.Path.{refl}
+use Rattle.std.proofs.Common.{refl}
 use Rattle.tape.specs.Lines.{opening}
 use Rattle.flow.proofs.start.Goals as goal
 

@@ -1,29 +1,14 @@
 -- `tape::absorb` meets its contract. Assumes nothing.
-use Prim.Native.Nat.{◌-◌, ◌≤◌}
-use native.Mathlib.Omega.{arith}
-use native.Mathlib.Nat.{le_refl}
-use mathlib.Core.Path.{◌≡◌, refl, sym, ◌∙◌}
-use mathlib.Core.Bool.{false, true≢false}
-use lib.ListN.{length, drop, length-drop}
-use lib.Seq.{length-take-le}
+use Rattle.std.proofs.Common.{List, ℕ, ◌-◌, ◌≤◌, arith, rules, le_refl, ◌≡◌, sym, ◌∙◌, false, true≢false, length, drop, length-drop, length-take-le}
 use Rattle.rules.specs.Tables.{Tables, tables}
 use Rattle.tape.specs.Inner.{state_of}
-use Rattle.tape.specs.Runs.{grown}
+use Rattle.tape.specs.Lines.{State, Fed, fed}
+use Rattle.tape.specs.Runs.{grown, left_is_end}
 use Rattle.tape.specs.Promises.{part, unfit_for}
 use Rattle.tape.specs.Room.{Fit, fit, text_room}
-use Rattle.tape.proofs.Shifted.{took, waits_few}
+use Rattle.tape.proofs.Shifted.{left_fits, took, waits_few}
 use Rattle.tape.proofs.absorb.Goals as goal
 use Rattle.tape.proofs.absorb.Goals.{After-feed-r, Else-is_unfit}
-
--- unfit
-pub returns-then-is_unfit : goal.returns-then-is_unfit
-returns-then-is_unfit c =
-    let bad = sym c.is_unfit.ensures ∙ c.if-is_unfit.true in
-    record {
-      done = λ e. absurd (true≢false (sym bad ∙ e));
-      refused = λ _. record { answer_is = refl; buffer_is = refl; tables_are = refl; out_is = refl };
-      short = λ e. absurd (true≢false e);
-    }
 
 abbrev found : Else-is_unfit → Tables
 found c = let a = c.args in tables a.values.now a.words.now a.seats.now
@@ -41,24 +26,14 @@ part_length c =
     let g = fitting c in
     length-take-le (a.to - a.from) (drop a.from a.buf.now) (omega (arith, g.inside, length-drop a.from a.buf.now))
 
--- what feed took lies within the part
-used_within : (c : After-feed-r) → let a = c.args in length (part a.buf.now a.from a.to) ≡ a.to - a.from → c.feed-r.result.used ≤ a.to - a.from
-used_within c whole = omega (arith, c.feed-r.ensures.used, whole)
-
 pub slice_bounds-feed-count : goal.slice_bounds-feed-count
-slice_bounds-feed-count c =
-    let fine = (goal.at.slice_bounds-feed-count c).Else-is_unfit in
-    omega (arith, (fitting fine).behind)
+slice_bounds-feed-count c = (fitting (goal.at.slice_bounds-feed-count c).Else-is_unfit).behind
 
 pub slice_bounds-feed-start : goal.slice_bounds-feed-start
-slice_bounds-feed-start c =
-    let fine = (goal.at.slice_bounds-feed-start c).Else-is_unfit in
-    omega (arith, (fitting fine).behind)
+slice_bounds-feed-start c = omega (arith, (fitting (goal.at.slice_bounds-feed-start c).Else-is_unfit).behind)
 
 pub slice_bounds-feed-end : goal.slice_bounds-feed-end
-slice_bounds-feed-end c =
-    let fine = (goal.at.slice_bounds-feed-end c).Else-is_unfit in
-    omega (arith, (fitting fine).inside)
+slice_bounds-feed-end c = omega (arith, (fitting (goal.at.slice_bounds-feed-end c).Else-is_unfit).inside)
 
 pub feed-r-requires : goal.feed-r-requires
 feed-r-requires c =
@@ -67,40 +42,49 @@ feed-r-requires c =
     let n = part_length fine in
     record { offset = omega (arith, g.offset, g.roomy, c.well_formed); calls = omega (arith, g.calls, g.roomy, c.well_formed) }
 
-pub shift-requires : goal.shift-requires
-shift-requires c =
-    let at_feed = (goal.at.shift-requires c).After-feed-r in
-    let fine = (goal.at.shift-requires c).Else-is_unfit in
-    record { behind = omega (arith, used_within at_feed (part_length fine), (fitting fine).behind); inside = (fitting fine).inside }
+-- what the run is of, and what waits is the end of it
+abbrev state_at : After-feed-r → State
+state_at c = let a = c.args in state_of a.k (tables a.values.now a.words.now a.seats.now)
 
-pub overflow_sub-result : goal.overflow_sub-result
-overflow_sub-result c =
-    let at_feed = (goal.at.overflow_sub-result c).After-feed-r in
-    let fine = (goal.at.overflow_sub-result c).Else-is_unfit in
-    omega (arith, used_within at_feed (part_length fine), (fitting fine).behind)
+abbrev part_at : After-feed-r → List ℕ
+part_at c = let a = c.args in part a.buf.now a.from a.to
 
-pub overflow_add-result : goal.overflow_add-result
-overflow_add-result c =
-    let at_feed = (goal.at.overflow_add-result c).After-feed-r in
-    let fine = (goal.at.overflow_add-result c).Else-is_unfit in
-    omega (arith, used_within at_feed (part_length fine), (fitting fine).offset, (fitting fine).roomy, c.well_formed)
+abbrev fed_at : After-feed-r → Fed
+fed_at c = fed (length (part_at c)) (state_at c) (part_at c)
+
+ends : (c : After-feed-r) → let f = fed_at c in f.left ≡ drop (length (part_at c) - length f.left) (part_at c)
+ends c = left_is_end (length (part_at c)) (state_at c) (part_at c) (le_refl _)
+
+waits_within : (c : After-feed-r) → let a = c.args in
+    Fit (length a.buf.now) a.from a.to a.k (length a.values.now) (length a.words.now) (length a.out.now) → c.feed-r.result.waiting ≤ a.to - a.from
+waits_within c g =
+    let a = c.args in
+    left_fits a.buf.now a.out.now a.from a.to (fed_at c) c.feed-r.result _ _ c.feed-r.ensures (ends c) g.behind g.inside
+
+pub overflow_sub-to : goal.overflow_sub-to
+overflow_sub-to c =
+    let at_feed = (goal.at.overflow_sub-to c).After-feed-r in
+    omega (arith, waits_within at_feed (fitting (goal.at.overflow_sub-to c).Else-is_unfit))
+
+pub copy_within-requires-clause-in_bounds : goal.copy_within-requires-clause-in_bounds
+copy_within-requires-clause-in_bounds c = (fitting (goal.at.copy_within-requires-clause-in_bounds c).Else-is_unfit).inside
+
+pub copy_within-requires-clause-dest_in_bounds : goal.copy_within-requires-clause-dest_in_bounds
+copy_within-requires-clause-dest_in_bounds c = omega (arith, (fitting (goal.at.copy_within-requires-clause-dest_in_bounds c).Else-is_unfit).inside)
 
 pub returns : goal.returns
 returns c =
+    let k = (goal.at.returns c).After-feed-r in
     let fine = (goal.at.returns c).Else-is_unfit in
     let a = c.args in
     let g = fitting fine in
-    let p = part a.buf.now a.from a.to in
-    let s = state_of a.k (found fine) in
-    let ran = c.feed-r.ensures in
-    let roomy = text_room (length p) s p (le_refl (length p)) in
-    let left =
-    took a.buf.now a.out.now a.from a.to a.k _ c.feed-r.result _ _ ran g.behind g.inside _ c.shift.ensures
-    (omega (arith, roomy, part_length fine, g.roomy)) (omega (arith, c.well_formed)) in
+    let n = le_refl (length (part_at k)) in
     record {
-      done = λ _. record { answer_is = left.answer_is; buffer_is = left.buffer_is; tables_are = left.tables_are; out_is = left.out_is };
+      done = λ _.
+          took a.buf.now a.out.now a.from a.to (fed_at k) c.feed-r.result _ _ c.feed-r.ensures (ends k) g.behind g.inside _ c.copy_within.ensures.after
+          (omega (arith, text_room _ (state_at k) (part_at k) n, part_length fine, g.roomy)) (omega (arith, c.well_formed));
       refused = λ e. absurd (true≢false (sym e ∙ not-unfit fine));
-      short = λ e.
-          waits_few a.buf.now a.out.now a.from a.to a.k _ c.feed-r.result _ _ ran g.behind g.inside
-          (λ i. omega (arith, c.slice_known-1.given i)) ((grown (length p) s p (le_refl (length p))).wanting (sym ran.stopped ∙ e));
+      short =
+          waits_few a.buf.now a.out.now a.from a.to (fed_at k) c.feed-r.result _ _ c.feed-r.ensures (ends k) g.behind g.inside (λ i. search rules)
+          (grown _ (state_at k) (part_at k) n).wanting;
     }

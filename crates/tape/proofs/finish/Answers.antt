@@ -1,11 +1,11 @@
 -- `tape::finish` meets its contract. Assumes nothing.
 use Rattle.tape.proofs.Wholes.{ends, cut_short_lem}
 use Rattle.tape.proofs.finish.Goals as goal
-
-pub returns-then-whole : goal.returns-then-whole
-returns-then-whole c =
-    rw c.if-whole.true (ends _ _ c.last-len.ensures c.sum.ensures)
+use Rattle.tape.proofs.finish.Goals.{then-whole, else-whole}
 
 pub returns : goal.returns
 returns c =
-    rw c.if-whole.false (cut_short_lem _ _ c.stop-len.ensures c.sum-2.ensures)
+    elim c.if-whole.branch [
+      | then-whole w ↦ rw (w.if-whole.true, w.out-is) (ends _ _ w.last-len.ensures (rw w.len-is at c.saturating_add.ensures))
+      | else-whole w ↦ rw (w.if-whole.false, w.out-is) (cut_short_lem _ _ w.stop-len.ensures (rw w.len-is at c.saturating_add.ensures))
+    ]
