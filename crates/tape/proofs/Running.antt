@@ -1,5 +1,7 @@
 -- A run over a part of a tape, turn by turn: sums that stop, and the text so far. Assumes nothing.
-use Rattle.std.proofs.Common.{ℕ, ◌+◌, ◌-◌, ◌≤◌, ◌<◌, arith, add_assoc, add-zero, Bool, true, false, cond, ◌≡◌, refl, ap, sym, ◌∙◌, ⊎_elim, ◌⊎◌, inl, inr, List, [], ◌++◌, leb, length, drop, length-append, leb-true, leb-false, le-leb, min, le_refl, length-drop, le_of_lt, take, take_all}
+use Rattle.std.proofs.Common.{ℕ, ◌+◌, ◌-◌, ◌≤◌, ◌<◌, arith, add_assoc, add-zero, Bool, true, false, cond, ◌≡◌, refl, ap, sym, ◌∙◌, ⊎_elim, ◌⊎◌, inl}
+use Rattle.std.proofs.Common.{inr, List, [], ◌++◌, leb, length, drop, length-append, leb-true, leb-false, le-leb, min, le_refl, length-drop, le_of_lt}
+use Rattle.std.proofs.Common.{take, take_all}
 use Rattle.std.proofs.Math.Nat.{min-eq_left, min-eq_right}
 use Rattle.std.proofs.Math.Seq.{length-sets}
 use Rattle.std.proofs.lemmas.List.Edits.{sets}
