@@ -1,5 +1,6 @@
 -- A buffer's front, and the steps over it. Assumes nothing.
-use Rattle.std.proofs.Common.{ℕ, ◌+◌, ◌-◌, ◌≤◌, ◌<◌, arith, zero-add, ◌≡◌, refl, ap, sym, ◌∙◌, Bool, true, false, true≢false, List, [], ◌++◌, eqb, length, take, drop, get_or, take-append-drop, length-take-le, take-add, get_or-take, eq-eqb, ne_eqb, le-leb}
+use Rattle.std.proofs.Common.{ℕ, ◌+◌, ◌-◌, ◌≤◌, ◌<◌, arith, zero-add, ◌≡◌, refl, ap, sym, ◌∙◌, Bool, true, false, true≢false, List, [], ◌++◌, eqb}
+use Rattle.std.proofs.Common.{length, take, drop, get_or, take-append-drop, length-take-le, take-add, get_or-take, eq-eqb, ne_eqb, le-leb}
 use Rattle.std.proofs.Math.Nat.{sub-zero}
 use Rattle.text.specs.Text.{greatest, Appended}
 use Rattle.rules.specs.Tables.{Tables}

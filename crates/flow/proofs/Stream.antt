@@ -1,5 +1,7 @@
 -- A tape that comes in parts prints what it prints whole. Assumes nothing.
-use Rattle.std.proofs.Common.{ℕ, ◌+◌, ◌-◌, ◌≤◌, ◌<◌, arith, le_refl, Bool, true, false, cond, true≢false, ◌≡◌, refl, ap, sym, ◌∙◌, subst, List, [], ◌∷◌, ◌++◌, append-nil, append_assoc, eqb, length, take, drop, get_or, length-drop, length-append, lt-ltb, le-ltb, le-leb, eqb-true}
+use Rattle.std.proofs.Common.{ℕ, ◌+◌, ◌-◌, ◌≤◌, ◌<◌, arith, le_refl, Bool, true, false, cond, true≢false, ◌≡◌, refl, ap, sym, ◌∙◌, subst, List, []}
+use Rattle.std.proofs.Common.{◌∷◌, ◌++◌, append-nil, append_assoc, eqb, length, take, drop, get_or, length-drop, length-append, lt-ltb, le-ltb}
+use Rattle.std.proofs.Common.{le-leb, eqb-true}
 use Rattle.std.proofs.Math.ListN.{get_or-append}
 use Rattle.std.proofs.Math.Seq.{take-append-le, drop-append-le}
 use Rattle.std.proofs.lemmas.Bool.{eqb-false}

@@ -39,7 +39,7 @@ pub fn start() -> Flow
     }
 }
 
-// Takes the calls of buf's bytes from `from` up to `to`.
+// Takes the calls of buf's bytes from `from` up to `to`. The tables are lent apart, for the reason that `tape::feed` gives.
 fn take_calls(
     k: Counts,
     buf: &mut [u8],

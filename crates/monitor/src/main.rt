@@ -141,7 +141,7 @@ fn close(f: Flow, out: &mut [u8]) -> usize
     flow::finish(f, out)
 }
 
-// Reads, hands on what was read, and writes what is given, to the end of the tape.
+// Reads, hands on what was read, and writes what is given, to the end of the tape. The tables are lent apart, for the reason that `tape::feed` gives.
 fn play(
     rt: &HostRuntime,
     buf: &mut [u8],

@@ -1,5 +1,7 @@
 -- A run over a part of a tape, turn by turn: sums that stop, and the text so far. Assumes nothing.
-use Rattle.std.proofs.Common.{ℕ, ◌+◌, ◌-◌, ◌≤◌, ◌<◌, arith, add_assoc, add-zero, Bool, true, false, cond, ◌≡◌, refl, ap, sym, ◌∙◌, ⊎_elim, ◌⊎◌, inl, inr, List, [], ◌++◌, leb, length, drop, length-append, leb-true, leb-false, le-leb, min, le_refl, length-drop, le_of_lt, take, take_all}
+use Rattle.std.proofs.Common.{ℕ, ◌+◌, ◌-◌, ◌≤◌, ◌<◌, arith, add-zero, Bool, true, false, ◌≡◌, refl, ap, sym, ◌∙◌}
+use Rattle.std.proofs.Common.{List, [], ◌++◌, leb, length, drop, length-append, leb-true, leb-false, min, le_refl, length-drop, le_of_lt}
+use Rattle.std.proofs.Common.{take, take_all}
 use Rattle.std.proofs.Math.Nat.{min-eq_left, min-eq_right}
 use Rattle.std.proofs.Math.Seq.{length-sets}
 use Rattle.std.proofs.lemmas.List.Edits.{sets}
@@ -21,42 +23,17 @@ saturated a b =
     cond_ind (λ (m : ℕ). min (a + b) greatest ≡ m) (leb (a + b) greatest)
     (λ e. min-eq_left (leb-true _ _ e)) (λ e. min-eq_right (le_of_lt (leb-false _ _ e)))
 
-abbrev Below : ℕ → ℕ → ℕ → Type 0
-Below a b m = (a + b ≤ greatest) × (m ≡ a + b)
-
-abbrev Above : ℕ → ℕ → ℕ → Type 0
-Above a b m = (greatest < a + b) × (m ≡ greatest)
-
-capped_cases : (a b : ℕ) → Below a b (capped a b) ⊎ Above a b (capped a b)
-capped_cases a b =
-    cond_ind (λ (m : ℕ). Below a b m ⊎ Above a b m) (leb (a + b) greatest) (λ e. inl (leb-true _ _ e, refl)) (λ e. inr (leb-false _ _ e, refl))
-
 pub capped_small : (a b : ℕ) → a + b ≤ greatest → capped a b ≡ a + b
-capped_small a b h = rw (le-leb (a + b) greatest h)
+capped_small a b h = omega (arith, saturated a b)
 
 capped_greatest : (a b : ℕ) → capped a b ≤ greatest
-capped_greatest a b =
-    ⊎_elim (λ (x : Below a b (capped a b)). omega arith) (λ (x : Above a b (capped a b)). omega arith) (capped_cases a b)
+capped_greatest a b = omega (arith, saturated a b)
 
 pub capped_below : (a b m : ℕ) → capped a b ≡ m → m < greatest → a + b ≡ m
-capped_below a b m e h =
-    ⊎_elim (λ (x : Below a b (capped a b)). omega arith) (λ (x : Above a b (capped a b)). absurd (omega arith)) (capped_cases a b)
+capped_below a b m e h = omega (arith, saturated a b)
 
 pub capped_sum : (p a b : ℕ) → capped (capped p a) b ≡ capped p (a + b)
-capped_sum p a b =
-    ⊎_elim
-    (λ (x : Below p a (capped p a)).
-    ap (λ (m : ℕ). capped m b) x.1 ∙ ap (λ (m : ℕ). cond (leb m greatest) m greatest) (add_assoc p a b))
-    (λ (x : Above p a (capped p a)).
-    ⊎_elim
-    (λ (z : Below p (a + b) (capped p (a + b))). absurd (omega arith))
-    (λ (z : Above p (a + b) (capped p (a + b))).
-    ⊎_elim
-    (λ (y : Below (capped p a) b (capped (capped p a) b)). omega arith)
-    (λ (y : Above (capped p a) b (capped (capped p a) b)). omega arith)
-    (capped_cases (capped p a) b))
-    (capped_cases p (a + b)))
-    (capped_cases p a)
+capped_sum p a b = omega (arith, saturated p a, saturated (capped p a) b, saturated p (a + b))
 
 -- THE TEXT SO FAR. A run that is to come to `whole` has `rest` before it; its text so far stands in out, and p is where the next line goes
 pub record Going (whole : Fed) (out₀ : List ℕ) (from : ℕ) (rest : Fed) (out : List ℕ) (p : ℕ) : Type 0 where

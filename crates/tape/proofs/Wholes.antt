@@ -1,5 +1,6 @@
 -- The whole tape: its calls and its last line, and the lines in a buffer. Assumes nothing.
-use Rattle.std.proofs.Common.{ℕ, ◌+◌, ◌≤◌, ◌<◌, arith, zero-add, min, true, false, ◌≡◌, ap, sym, ◌∙◌, List, [], ◌∷◌, ◌++◌, append-nil, eqb, length, drop, get_or, length-append, eq-eqb, ne_eqb, le-leb, take}
+use Rattle.std.proofs.Common.{ℕ, ◌+◌, ◌≤◌, ◌<◌, arith, zero-add, min, true, false, ◌≡◌, ap, sym, ◌∙◌, List, [], ◌∷◌, ◌++◌, append-nil, eqb, length}
+use Rattle.std.proofs.Common.{drop, get_or, length-append, eq-eqb, ne_eqb, le-leb, take}
 use Rattle.std.proofs.lemmas.List.Edits.{sets}
 use Rattle.text.specs.Text.{greatest, bytes, last_line, put_in, Appended}
 use Rattle.text.specs.Puts.{sets_at, put-fits}

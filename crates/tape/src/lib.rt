@@ -67,6 +67,7 @@ pub const OPENING: Counts = Counts {
 pub const FAR_OFF: u64 = 1 << 62;
 
 // Takes every whole call of a part of a tape, and puts the lines into out.
+// The tables are lent apart, here and above: who takes a struct of references has to promise of each that the same one is left, and is no plainer.
 fn feed(
     part: &[u8],
     mut k: Counts,
@@ -144,7 +145,8 @@ fn lines(tape: &[u8], out: &mut [u8]) -> usize
     }
 }
 
-// Runs a tape from memory: its lines into out, and how many bytes they are. Where they do not fit, out stays and the answer is 2^64 - 1.
+// Runs a tape from memory: its lines into out, and how many bytes they are. Where they do not fit, out stays and the answer is 2^64 - 1,
+// the number that the C interface (`replay_run`) and `Written` fix.
 // The first pass measures and writes nothing; the second writes.
 pub fn run(tape: &[u8], out: &mut [u8]) -> u64
     ensures { Written tape.now out.old result out.new }
