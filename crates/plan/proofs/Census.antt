@@ -1,5 +1,7 @@
 -- The pass over the rows: what it holds after one seat more, and at its end; and what Open's tests have from it.
-use Rattle.std.proofs.Common.{ℕ, zero, suc, ◌+◌, ◌*◌, max, ◌<◌, ◌≤◌, ◌≡◌, refl, sym, ap, ◌∙◌, ◌≢◌, Bool, true, false, cond, ◌||◌, List, map, sum, Option, Some, None, unwrap_or, arith, add-one, lt-ltb, le-ltb, eq-eqb, ne_eqb, eqb-true, eqb, length, get_or, set, replicate, length-set, get_or-set_same, get_or-set_other}
+use Rattle.std.proofs.Common.{ℕ, zero, suc, ◌+◌, ◌*◌, max, ◌<◌, ◌≤◌, ◌≡◌, refl, sym, ap, ◌∙◌, ◌≢◌, Bool, true, false, cond, ◌||◌, List, map, sum, Option}
+use Rattle.std.proofs.Common.{Some, None, unwrap_or, arith, add-one, lt-ltb, le-ltb, eq-eqb, ne_eqb, eqb-true, eqb, length, get_or, set, replicate}
+use Rattle.std.proofs.Common.{length-set, get_or-set_same, get_or-set_other}
 use Rattle.std.proofs.lemmas.Bool.{eqb-false, lt-leb}
 use Rattle.std.specs.Option.{option_or}
 use Rattle.std.specs.List.{range_with_len}

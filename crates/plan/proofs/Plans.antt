@@ -1,5 +1,6 @@
 -- A plan: its tests, owner by owner, the sums over the owners, and the plan laid over a table.
-use Rattle.std.proofs.Common.{ℕ, zero, suc, ◌+◌, ◌*◌, ◌<◌, ◌≤◌, ◌≡◌, ◌∙◌, refl, sym, ap, ◌⊎◌, inl, inr, subst, true≢false, Bool, true, false, List, map, sum, arith, add-one, lt-ltb, le-ltb, ltb-false, ltb, length, get_or, set, slice_index_or}
+use Rattle.std.proofs.Common.{ℕ, zero, suc, ◌+◌, ◌*◌, ◌<◌, ◌≤◌, ◌≡◌, ◌∙◌, refl, sym, ap, ◌⊎◌, inl, inr, subst, true≢false, Bool, true, false, List, map, sum}
+use Rattle.std.proofs.Common.{arith, add-one, lt-ltb, le-ltb, ltb-false, ltb, length, get_or, set, slice_index_or}
 use Rattle.std.specs.Bool.{MatchBool}
 use Rattle.std.specs.List.{range_with_len, HoldsAt, AllWithin}
 use Rattle.std.proofs.lemmas.List.FromFn.{length-range_with_len, get_or-range_with_len, sum_by-map-range_with_len_more}
