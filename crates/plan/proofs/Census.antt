@@ -1,6 +1,6 @@
 -- The pass over the rows: what it holds after one seat more, and at its end; and what Open's tests have from it.
-use Rattle.std.proofs.Common.{ℕ, zero, suc, ◌+◌, ◌*◌, max, ◌<◌, ◌≤◌, ◌≡◌, refl, sym, ap, ◌∙◌, ◌≢◌, Bool, true, false, cond, ◌||◌, List, map, sum, Option}
-use Rattle.std.proofs.Common.{Some, None, unwrap_or, arith, add-one, lt-ltb, le-ltb, eq-eqb, ne_eqb, eqb-true, eqb, length, get_or, set, replicate}
+use Rattle.std.proofs.Common.{ltb, ℕ, zero, suc, ◌+◌, ◌*◌, max, ◌<◌, ◌≤◌, ◌≡◌, refl, sym, ap, ◌∙◌, ◌≢◌, Bool, true, false, cond, ◌||◌, List, map, sum, Option}
+use Rattle.std.proofs.Common.{Some, None, unwrap_or, arith, add-one, eq-eqb, ne_eqb, eqb-true, eqb, length, get_or, set, replicate}
 use Rattle.std.proofs.Common.{length-set, get_or-set_same, get_or-set_other}
 use Rattle.std.proofs.lemmas.Bool.{eqb-false, lt-leb}
 use Rattle.std.specs.Option.{option_or}
@@ -98,14 +98,10 @@ module _ (seats : List ℕ) {counts : List ℕ} (h : Counts seats counts seat_co
   unfolding held
   held_is o l = h.each o l
 
-  -- an owner over its limit, and one that is not
-  pub over_is : (o : ℕ) → o < owners → limit seats o < get_or counts o 0 → over_limit seats o ≡ true
+  -- whether an owner is over its limit
+  pub over_exactly : (o : ℕ) → o < owners → {b : Bool} → b ≡ ltb (limit seats o) (get_or counts o 0) → b ≡ over_limit seats o
   unfolding over_limit
-  over_is o l k = lt-ltb _ _ (omega (arith, held_is o l))
-
-  pub within_is : (o : ℕ) → o < owners → get_or counts o 0 ≤ limit seats o → over_limit seats o ≡ false
-  unfolding over_limit
-  within_is o l k = le-ltb _ _ (omega (arith, held_is o l))
+  over_exactly o l e = e ∙ ap (ltb (limit seats o)) (held_is o l)
 
   pub claim_is : (o : ℕ) {r m s : ℕ} → o < owners → m ≡ get_or counts o 0 → s ≡ share seats o → r ≡ max m s → r ≡ claim seats o
   unfolding claim

@@ -1,35 +1,13 @@
 -- A plan: its tests, owner by owner, the sums over the owners, and the plan laid over a table.
-use Rattle.std.proofs.Common.{ℕ, zero, suc, ◌+◌, ◌*◌, ◌<◌, ◌≤◌, ◌≡◌, ◌∙◌, refl, sym, ap, ◌⊎◌, inl, inr, subst, true≢false, Bool, true, false, List, map, sum}
-use Rattle.std.proofs.Common.{arith, add-one, lt-ltb, le-ltb, ltb-false, ltb, length, get_or, set, slice_index_or}
-use Rattle.std.specs.Bool.{MatchBool}
-use Rattle.std.specs.List.{range_with_len, HoldsAt, AllWithin}
-use Rattle.std.proofs.lemmas.List.FromFn.{length-range_with_len, get_or-range_with_len, sum_by-map-range_with_len_more}
-use Rattle.rules.specs.Tests.{any, sum_to, one_of}
+use Rattle.std.proofs.Common.{ℕ, zero, suc, ◌+◌, ◌*◌, ◌<◌, ◌≤◌, ◌≡◌, ◌∙◌, refl, sym, ap, ◌⊎◌, inl, inr, true, false, List, map, sum}
+use Rattle.std.proofs.Common.{arith, add-one, lt-ltb, le-ltb, ltb-false, ltb, get_or, set}
+use Rattle.std.specs.List.{range_with_len}
+use Rattle.std.proofs.lemmas.List.FromFn.{sum_by-map-range_with_len_more}
+use Rattle.rules.specs.Tests.{sum_to, one_of}
 use Rattle.rules.specs.Layout.{owners, seat_count, share, limit}
 use Rattle.rules.specs.Plan.{bad_share, bad_plan, laid}
-use Rattle.rows.specs.Search.{Passed, some_passes, none_passes, none_any, none_at}
+use Rattle.rows.specs.Search.{Passed, some_passes, none_passes, none_at}
 use Rattle.rows.specs.Fine.{none_of}
-
--- SOME OF THE OWNERS
-some_any : (p : ℕ → Bool) (n k : ℕ) → k < n → p k ≡ true → any p n ≡ true
-some_any p n k l e = go (any p n) refl
-  where
-    go : (b : Bool) → any p n ≡ b → any p n ≡ true
-    go true q = q
-    go false q = absurd (true≢false (sym e ∙ none_at p n k q l))
-
-number_at : (n k : ℕ) → k < n → slice_index_or (range_with_len 0 n) k 0 ≡ k
-number_at n k l = get_or-range_with_len 0 n k 0 l ∙ (let e : 0 + k ≡ k = omega arith in e)
-
--- the library's `any` over the numbers below n
-pub any_is : (p : ℕ → Bool) (n : ℕ) (r : Bool) → (let below : List ℕ = range_with_len 0 n in
-    MatchBool r ((k : ℕ) × (k < length below) × HoldsAt (λ o. o < n → p o ≡ true) below k) (AllWithin (λ o. o < n → p o ≡ false) below 0 (length below))) →
-    r ≡ any p n
-any_is p n true (k, l, h) =
-    let below : k < n = omega (arith, length-range_with_len 0 n) in
-    sym (some_any p n k below (subst (λ o. o < n → p o ≡ true) (number_at n k below) (h 0) below))
-any_is p n false h =
-    sym (none_any p n (λ k l. subst (λ o. o < n → p o ≡ false) (number_at n k l) (h k 0 (omega arith) (omega (arith, length-range_with_len 0 n))) l))
 
 -- AN OWNER'S SHARE AND LIMIT
 module _ (plan : List ℕ) (o : ℕ) {s l : ℕ} (a : s ≡ share plan o) (b : l ≡ limit plan o) where

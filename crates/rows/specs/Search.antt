@@ -105,6 +105,14 @@ scan_hit p (suc n) i h = go (p i) refl (λ l. scan_hit p n (suc i) l) h
 pub first_hit : (p : ℕ → Bool) (n : ℕ) → first p n < n → p (first p n) ≡ true
 first_hit p n h = scan_hit p n 0 (omega arith)
 
+-- a number that passes is one
+pub some_any : (p : ℕ → Bool) (n k : ℕ) → k < n → p k ≡ true → any p n ≡ true
+some_any p n k l e = go (any p n) refl
+  where
+    go : (b : Bool) → any p n ≡ b → any p n ≡ true
+    go true q = q
+    go false q = absurd (true≢false (sym e ∙ none_at p n k q l))
+
 -- a number that passes, and none below it does: it is the first
 pub first_is : (p : ℕ → Bool) (n i : ℕ) → i < n → p i ≡ true → ((k : ℕ) → k < i → p k ≡ false) → first p n ≡ i
 first_is p n i l e none =

@@ -1,7 +1,8 @@
 -- A search among the numbers below n, and what is known where it has found one.
-use Rattle.std.specs.Prelude.{ℕ, ◌<◌, ◌≤◌, ◌≡◌, refl, Bool, true, false, cond, Option, Some, None, is_some}
-use Rattle.std.proofs.Common.{sym, ap, true≢false, ltb-true, ltb-false}
+use Rattle.std.specs.Prelude.{ℕ, ◌<◌, ◌≤◌, ◌≡◌, refl, Bool, true, false, cond, Option, Some, None, is_some, unwrap_or}
+use Rattle.std.proofs.Common.{sym, ap, true≢false, arith, ltb-true, ltb-false}
 use Rattle.rules.specs.Tests.{first, any}
+use Rattle.rows.specs.Search.{first_le}
 
 -- the first that passes, where one does
 abbrev pub found_by : Bool → ℕ → Option ℕ
@@ -31,3 +32,11 @@ found_none p n e = go (any p n) refl e
     go : (b : Bool) → any p n ≡ b → found_by b (first p n) ≡ None → n ≤ first p n
     go true q z = absurd (true≢false (ap is_some z))
     go false q z = ltb-false _ _ q
+
+-- what is found, or n: the first that passes, or n
+pub found_or : (p : ℕ → Bool) (n : ℕ) → unwrap_or (found p n) n ≡ first p n
+found_or p n = go (any p n) refl
+  where
+    go : (b : Bool) → any p n ≡ b → unwrap_or (found_by b (first p n)) n ≡ first p n
+    go true q = refl
+    go false q = omega (arith, ltb-false (first p n) n q, first_le p n)

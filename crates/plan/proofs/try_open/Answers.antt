@@ -1,5 +1,5 @@
 -- `plan::try_open` meets its contract. Assumes nothing.
-use Rattle.std.proofs.Common.{◌≡◌, ap, ◌∙◌, sym, le-leb}
+use Rattle.std.proofs.Common.{◌≡◌, ◌∙◌, sym, le-leb}
 use Rattle.std.proofs.lemmas.Result.{err_from_is_err_and}
 use Rattle.rules.specs.Numbers.{refused_for, not_zero}
 use Rattle.rules.specs.Tables.{tables}
