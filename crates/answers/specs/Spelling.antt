@@ -12,22 +12,22 @@ letters_of a = bytes (spelling a)
 -- what a caller of `spell` rests on
 pub record Spells (r : List ℕ) (a : Answer) : Type 0 where
   pub short : length r ≤ 7
-  pub all : r ≡ letters_of a
+  pub letters : r ≡ letters_of a
 
 pub spells : (a : Answer) → Spells (letters_of a) a
-spells (Ready n) = record { short = omega arith; all = refl }
-spells (Seat n) = record { short = omega arith; all = refl }
-spells (Value n) = record { short = omega arith; all = refl }
-spells (Noted n) = record { short = omega arith; all = refl }
-spells (Locked n) = record { short = omega arith; all = refl }
-spells (Timed n) = record { short = omega arith; all = refl }
-spells (Checked n) = record { short = omega arith; all = refl }
-spells (Sealed n) = record { short = omega arith; all = refl }
-spells (Stored n) = record { short = omega arith; all = refl }
-spells (Done n) = record { short = omega arith; all = refl }
-spells (Dropped n) = record { short = omega arith; all = refl }
-spells (Refused n) = record { short = omega arith; all = refl }
-spells (Aborted n) = record { short = omega arith; all = refl }
+spells (Ready n) = record { short = omega arith; letters = refl }
+spells (Seat n) = record { short = omega arith; letters = refl }
+spells (Value n) = record { short = omega arith; letters = refl }
+spells (Noted n) = record { short = omega arith; letters = refl }
+spells (Locked n) = record { short = omega arith; letters = refl }
+spells (Timed n) = record { short = omega arith; letters = refl }
+spells (Checked n) = record { short = omega arith; letters = refl }
+spells (Sealed n) = record { short = omega arith; letters = refl }
+spells (Stored n) = record { short = omega arith; letters = refl }
+spells (Done n) = record { short = omega arith; letters = refl }
+spells (Dropped n) = record { short = omega arith; letters = refl }
+spells (Refused n) = record { short = omega arith; letters = refl }
+spells (Aborted n) = record { short = omega arith; letters = refl }
 
 pub spells_as : {r : List ℕ} (a : Answer) → r ≡ letters_of a → Spells r a
 spells_as a e = rw e (spells a)

@@ -7,7 +7,7 @@ ghost use Rattle.text.specs.Promises.{WidthIs};
 ghost use Rattle.text.specs.Inner.{head_of, headed, HeadWidth, Put};
 
 // How many letters of a word are written.
-const MOST_LETTERS: usize = 10;
+pub const MOST_LETTERS: usize = 10;
 
 // How many decimal digits n has.
 pub fn width(n: u64) -> usize

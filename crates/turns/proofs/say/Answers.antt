@@ -8,4 +8,4 @@ use Rattle.turns.proofs.say.Goals as goal
 pub returns : goal.returns
 returns c =
     let is = spells_as c.args.a c.spell.ensures in
-    rw (take_all most_letters c.spell.result.now (omega (arith, is.short)) ∙ is.all, c.number_of.ensures) at c.numbered.ensures
+    rw (take_all most_letters c.spell.result.now (omega (arith, is.short)) ∙ is.letters, c.number_of.ensures) at c.numbered.ensures
