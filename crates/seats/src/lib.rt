@@ -229,68 +229,81 @@ impl Head {
         }
         self.is_late()
     }
+}
 
-    fn is_bad_read(self, row: &[u64], i: u64, records: u64) -> bool
-        requires { HeadOf row.now self }
-        ensures { result ≡ bad_read row.now records i }
+// A row, read with its head.
+#[derive(Clone, Copy)]
+struct Row<'a> {
+    numbers: &'a [u64],
+    head: Head,
+    ghost head_is: { head ≡ head_of numbers.now },
+}
+
+impl<'a> Row<'a> {
+    fn of(numbers: &'a [u64]) -> Row<'a>
+        ensures { result.numbers.now ≡ numbers.now }
     {
-        let entry = ReadEntry::of(row, i);
+        let head = Head::of(numbers);
+        Row { numbers, head }
+    }
+
+    fn is_bad_read(&self, i: u64, records: u64) -> bool
+        ensures { result ≡ bad_read self.now.numbers.now records i }
+    {
+        let entry = ReadEntry::of(self.numbers, i);
         if records <= entry.item {
             return true;
         }
-        CHECKING <= self.phase && self.time < entry.kept_write
+        CHECKING <= self.head.phase && self.head.time < entry.kept_write
     }
-}
 
-fn some_bad_read(row: &[u64], head: Head, records: u64) -> bool
-    requires { HeadOf row.now head }
-    ensures { result ≡ any (bad_read row.now records) head.reads }
-{
-    (0..head.reads).any(|i| head.is_bad_read(row, i, records))
-}
+    fn some_bad_read(&self, records: u64) -> bool
+        ensures { result ≡ any (bad_read self.now.numbers.now records) self.now.head.reads }
+    {
+        (0..self.head.reads).any(|i| self.is_bad_read(i, records))
+    }
 
-fn some_bad_write(row: &[u64], writes: u64, records: u64) -> bool
-    ensures { result ≡ any (bad_write row.now records) writes }
-{
-    (0..writes).any(|i| records <= WriteEntry::of(row, i).item)
-}
+    fn some_bad_write(&self, records: u64) -> bool
+        ensures { result ≡ any (bad_write self.now.numbers.now records) self.now.head.writes }
+    {
+        (0..self.head.writes).any(|i| records <= WriteEntry::of(self.numbers, i).item)
+    }
 
-fn is_damaged(row: &[u64], head: Head, records: u64) -> bool
-    requires { HeadOf row.now head }
-    ensures { result ≡ damaged row.now records }
-{
-    if head.phase == FREE {
-        return false;
+    fn is_damaged(&self, records: u64) -> bool
+        ensures { result ≡ damaged self.now.numbers.now records }
+    {
+        if self.head.phase == FREE {
+            return false;
+        }
+        if self.head.is_bad() {
+            return true;
+        }
+        if self.some_bad_read(records) {
+            return true;
+        }
+        self.some_bad_write(records)
     }
-    if head.is_bad() {
-        return true;
-    }
-    if some_bad_read(row, head, records) {
-        return true;
-    }
-    some_bad_write(row, head.writes, records)
-}
 
-// ADMITTING A CALL that names a seat: the head of its row, or the refusal
-// Refusals 3 to 5, from the row. `last` is the last phase that the call is for.
-#[tactic(auto, using(crate::proofs::Admitting::refused_late))]
-fn admit_to_row(row: &[u64], records: u64, owner: u64, last: u64) -> Result<Head, Refusal>
-    ensures { numbered result ≡ admission (row_refusal row.now records owner last) row.now }
-{
-    let head = Head::of(row);
-    if is_damaged(row, head, records) {
-        return Err(Refusal::Damaged);
+    // ADMITTING A CALL: the row's head, or refusals 3 to 5. `last` is the last phase that the call is for.
+    #[tactic(auto, using(crate::proofs::Admitting::refused_late))]
+    fn admit(&self, records: u64, owner: u64, last: u64) -> Result<Head, Refusal>
+        ensures { numbered result ≡ admission (row_refusal self.now.numbers.now records owner last) self.now.numbers.now }
+    {
+        let head = self.head;
+        if self.is_damaged(records) {
+            return Err(Refusal::Damaged);
+        }
+        if head.phase == FREE {
+            return Err(Refusal::NotHeld);
+        }
+        if head.owner != owner {
+            return Err(Refusal::NotHeld);
+        }
+        if last < head.phase {
+            return Err(Refusal::TooLate);
+        }
+        Ok(head)
     }
-    if head.phase == FREE {
-        return Err(Refusal::NotHeld);
-    }
-    if head.owner != owner {
-        return Err(Refusal::NotHeld);
-    }
-    if last < head.phase {
-        return Err(Refusal::TooLate);
-    }
-    Ok(head)
 }
 
 // The head of its row; refused for the lowest number that is due. `unknown`: the call names a record, and there is no such record.
@@ -312,5 +325,5 @@ pub fn admit(
     if is_misnamed(owner, seat, unknown) {
         return Err(Refusal::OutOfRange);
     }
-    admit_to_row(row_of(seats, seat), records, owner, last)
+    Row::of(row_of(seats, seat)).admit(records, owner, last)
 }

@@ -21,5 +21,6 @@ returns c =
       ← c.is_misnamed.ensures,
       c.if-is_misnamed.false,
       ← c.row_of.ensures,
+      ← c.of.ensures,
     )
-    c.admit_to_row.ensures
+    c.admit.ensures
