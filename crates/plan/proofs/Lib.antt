@@ -1,4 +1,4 @@
 -- Laws that the proofs of this crate share.
 pub mod Plans
-pub mod Census
+pub mod Counted
 pub mod Start

@@ -1,10 +1,8 @@
 -- One pass over the rows counts the seats that each owner holds, and finds a bad row or the lowest free seat. The tests of Open rest on it.
-use Rattle.std.specs.Prelude.{ℕ, ◌<◌, ◌≡◌, true, false, List, length, get_or, Option, Some, None, Result, Ok, Err}
+use Rattle.std.specs.Prelude.{ℕ, ◌<◌, ◌≡◌, false, List, length, get_or, Option, Some, None}
 use Rattle.rules.specs.Tests.{any, count}
-use Rattle.rules.specs.Layout.{owners, seat_count, seats_length, row, phase, owner, share, limit}
+use Rattle.rules.specs.Layout.{owners, seat_count, row, phase, owner, share, limit}
 use Rattle.rules.specs.Plan.{bad_plan, bad_row, holds, held, claims, is_free, free_seat}
-use Rattle.rules.specs.declared.Refusal.{Refusal}
-use Rattle.rules.specs.declared.Refusal.TheVariants.{Damaged}
 use Rattle.rows.specs.Search.{Passed}
 
 -- the two numbers of a row that the pass looks at
@@ -23,32 +21,16 @@ abbrev pub Lowest : List ℕ → ℕ → Option ℕ → Type 0
 Lowest seats n None = Passed (is_free seats) seat_count n
 Lowest seats n (Some free) = free ≡ free_seat seats
 
--- BEFORE THE PASS: the table has its length, and nothing is counted
-pub record Uncounted (seats counts : List ℕ) : Type 0 where
-  pub whole : length seats ≡ seats_length
-  pub none : Counts seats counts 0
-
 -- AFTER IT: no row is bad, all seats are counted, and the lowest free one is found
 pub record Sound (seats counts : List ℕ) (free : ℕ) : Type 0 where
   pub rows_good : any (bad_row seats) seat_count ≡ false
   pub counts_are : Counts seats counts seat_count
   pub free_is : free ≡ free_seat seats
 
--- or a row is bad
-abbrev pub Census : List ℕ → List ℕ → Result ℕ Refusal → Type 0
-Census seats counts (Err why) = (why ≡ Damaged) × (any (bad_row seats) seat_count ≡ true)
-Census seats counts (Ok free) = Sound seats counts free
-
 -- U can be summed up: all seats are counted, and no share is above 64
 pub record Planned (seats counts : List ℕ) : Type 0 where
   pub counts_are : Counts seats counts seat_count
   pub plan_good : bad_plan seats ≡ false
-
--- the tests of Open are for one of the sixteen owners, where no row is bad
-pub record ForOwner (seats counts : List ℕ) (o : ℕ) : Type 0 where
-  pub rows_good : any (bad_row seats) seat_count ≡ false
-  pub counts_are : Counts seats counts seat_count
-  pub owner_in : o < owners
 
 -- an owner's numbers, and U
 pub record OwnerOf (seats : List ℕ) (o s l h u : ℕ) : Type 0 where

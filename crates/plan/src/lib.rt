@@ -1,13 +1,14 @@
 // Setup and Open: the plan of shares and limits, the seats held under it, and the seat that is given.
 #![tactic(auto)]
 
-ghost use Rattle.std.specs.Prelude.{◌≡◌, List, ℕ, ◌+◌, ◌<◌, ◌≤◌, get_or};
+ghost use Rattle.std.specs.Prelude.{◌≡◌, List, ℕ, ◌+◌, ◌<◌, ◌≤◌, true, false, length, get_or, IfOk, IfErr};
 ghost use Rattle.rules.specs.Tests.{any};
-ghost use Rattle.rules.specs.Layout.{owners, seat_count, plan_width, row, phase as phase_of, share as share_of};
+ghost use Rattle.rules.specs.Layout.{owners, seat_count, seats_length, plan_width, row, phase as phase_of, share as share_of};
 ghost use Rattle.rules.specs.Numbers.{told, refused_for};
 ghost use Rattle.rules.specs.Lent.{lent, left};
 ghost use Rattle.rules.specs.Plan.{bad_plan, laid, held as held_by, bad_row, over_limit, claims as claims_of, crowded, owner_refusal, plan_refusal, opened};
-ghost use Rattle.plan.specs.Census.{RowOf, Counts, Lowest, Uncounted, Census, Planned, OwnerOf, ForOwner};
+ghost use Rattle.plan.specs.Census.{RowOf, Counts, Lowest, Sound, OwnerOf};
+ghost use Rattle.rules.specs.declared.Refusal.TheVariants.{Damaged};
 ghost use Rattle.plan.specs.Promises.{SetupAnswered, OpenAnswered};
 
 use rules::{Answer, Refusal};
@@ -108,39 +109,6 @@ fn lowest(free: Option<u64>, seat: u64, phase: u64) -> Option<u64>
     free.or(Some(seat))
 }
 
-// The lowest free seat, beside the seats that each owner holds; refusal 3 where a row is one that Open refuses.
-fn take_census(seats: &[u64], held: &mut [u64]) -> Result<u64, Refusal>
-    requires { Uncounted seats.now held.old }
-    ensures { Census seats.now held.new result }
-{
-    let mut free = None;
-    for i in 0..SEATS {
-        let phase = at(seats, PLAN_WIDTH + ROW_WIDTH * i + PHASE);
-        let owner = at(seats, PLAN_WIDTH + ROW_WIDTH * i + OWNER);
-        if is_bad_row(phase, owner) {
-            return Err(Refusal::Damaged);
-        }
-        count(held, phase, owner);
-        free = lowest(free, i, phase);
-    }
-    Ok(free.unwrap_or(SEATS))
-}
-
-fn some_over(seats: &[u64], held: &[u64]) -> bool
-    requires { Counts seats.now held.now seat_count }
-    ensures { result ≡ any (over_limit seats.now) owners }
-{
-    (0..OWNERS).any(|o| at(seats, LIMITS_FROM + o) < at(held, o))
-}
-
-// U: over all owners, the greater of held and share.
-fn claim_sum(seats: &[u64], held: &[u64]) -> u64
-    requires { Planned seats.now held.now }
-    ensures { result ≡ claims_of seats.now }
-{
-    (0..OWNERS).map(|o| at(held, o).max(at(seats, o))).sum()
-}
-
 fn is_crowded(share: u64, mine: u64, claims: u64) -> bool
     ensures { (seats : List ℕ) (o : ℕ) → share ≡ share_of seats o → mine ≡ held_by seats o → claims ≡ claims_of seats → result ≡ crowded seats o }
 {
@@ -160,21 +128,69 @@ fn check_owner(share: u64, limit: u64, mine: u64, claims: u64) -> Result<(), Ref
     Ok(())
 }
 
-// Refusals 3, 6 and 7, from the rows as they were counted.
-fn check_plan(seats: &[u64], held: &[u64], owner: u64) -> Result<(), Refusal>
-    requires { ForOwner seats.now held.now owner }
-    ensures { refused_for result ≡ plan_refusal seats.now owner }
-{
-    if is_bad_plan(seats) || some_over(seats, held) {
-        return Err(Refusal::Damaged);
+// What one pass over the rows finds: the seats that each owner holds, and the lowest free one.
+#[derive(Drop)]
+struct Census<'a> {
+    seats: &'a [u64],
+    held: [u64; OWNERS as usize],
+    free: u64,
+    ghost sound: { Sound seats.now held free },
+}
+
+impl<'a> Census<'a> {
+    // Refusal 3 where a row is one that Open refuses.
+    fn take(seats: &'a [u64]) -> Result<Census<'a>, Refusal>
+        requires { length seats.now ≡ seats_length }
+        ensures ok { IfOk result (λ census. census.seats.now ≡ seats.now) }
+        ensures err { IfErr result (λ why. (why ≡ Damaged) × (any (bad_row seats.now) seat_count ≡ true)) }
+    {
+        let mut held = [0; OWNERS as usize];
+        let mut free = None;
+        for i in 0..SEATS {
+            let phase = at(seats, PLAN_WIDTH + ROW_WIDTH * i + PHASE);
+            let owner = at(seats, PLAN_WIDTH + ROW_WIDTH * i + OWNER);
+            if is_bad_row(phase, owner) {
+                return Err(Refusal::Damaged);
+            }
+            count(&mut held, phase, owner);
+            free = lowest(free, i, phase);
+        }
+        let free = free.unwrap_or(SEATS);
+        Ok(Census { seats, held, free })
     }
-    let claims = claim_sum(seats, held);
-    if SEATS < claims {
-        return Err(Refusal::Damaged);
+
+    fn some_over(&self) -> bool
+        ensures { result ≡ any (over_limit self.now.seats.now) owners }
+    {
+        (0..OWNERS).any(|o| at(self.seats, LIMITS_FROM + o) < at(&self.held, o))
     }
-    let share = at(seats, owner);
-    let limit = at(seats, LIMITS_FROM + owner);
-    check_owner(share, limit, at(held, owner), claims)
+
+    // U: over all owners, the greater of held and share.
+    fn claims(&self) -> u64
+        requires { bad_plan self.now.seats.now ≡ false }
+        ensures { result ≡ claims_of self.now.seats.now }
+    {
+        (0..OWNERS)
+            .map(|o| at(&self.held, o).max(at(self.seats, o)))
+            .sum()
+    }
+
+    // Refusals 3, 6 and 7.
+    fn check(&self, owner: u64) -> Result<(), Refusal>
+        requires { owner < owners }
+        ensures { refused_for result ≡ plan_refusal self.now.seats.now owner }
+    {
+        if is_bad_plan(self.seats) || self.some_over() {
+            return Err(Refusal::Damaged);
+        }
+        let claims = self.claims();
+        if SEATS < claims {
+            return Err(Refusal::Damaged);
+        }
+        let share = at(self.seats, owner);
+        let limit = at(self.seats, LIMITS_FROM + owner);
+        check_owner(share, limit, at(&self.held, owner), claims)
+    }
 }
 
 fn open_row(seats: &mut [u64], seat: u64, owner: u64)
@@ -194,9 +210,9 @@ fn try_open(values: &[u64], words: &[u64], seats: &mut [u64], owner: u64) -> Res
     if OWNERS <= owner {
         return Err(Refusal::OutOfRange);
     }
-    let mut held = [0u64; OWNERS as usize];
-    let free = take_census(seats, &mut held)?;
-    check_plan(seats, &held, owner)?;
+    let census = Census::take(seats)?;
+    census.check(owner)?;
+    let free = census.free;
     open_row(seats, free, owner);
     Ok(Answer::Seat(free))
 }

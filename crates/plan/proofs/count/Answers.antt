@@ -1,6 +1,6 @@
 -- `plan::count` meets its contract. Assumes nothing.
 use Rattle.std.proofs.Common.{◌∙◌}
-use Rattle.plan.proofs.Census.{counts_free, counts_taken}
+use Rattle.plan.proofs.Counted.{counts_free, counts_taken}
 use Rattle.plan.proofs.count.Goals as goal
 
 pub returns-then-phase-eq-FREE : goal.returns-then-phase-eq-FREE

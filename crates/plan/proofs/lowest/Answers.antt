@@ -1,7 +1,7 @@
 -- `plan::lowest` meets its contract. Assumes nothing.
 use Rattle.std.proofs.Common.{eq-eqb, ne_eqb}
 use Rattle.rules.specs.Plan.{is_free}
-use Rattle.plan.proofs.Census.{lowest_here, lowest_past}
+use Rattle.plan.proofs.Counted.{lowest_here, lowest_past}
 use Rattle.plan.proofs.lowest.Goals as goal
 
 pub returns-then-phase-ne-FREE : goal.returns-then-phase-ne-FREE

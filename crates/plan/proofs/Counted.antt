@@ -113,6 +113,10 @@ module _ (seats : List ℕ) {counts : List ℕ} (h : Counts seats counts seat_co
   unfolding claim
   claim_small o e l = omega (arith, held_small seats seat_count h o, held_is o l, share_small seats o e l)
 
+-- U can be summed up: all seats are counted, and no share is above 64
+pub planned : {seats counts : List ℕ} {free : ℕ} → Sound seats counts free → bad_plan seats ≡ false → Planned seats counts
+planned s good = record { counts_are = s.counts_are; plan_good = good }
+
 -- U, as the code sums it up
 pub claims_are : {seats counts : List ℕ} → Planned seats counts →
     sum (map (λ o. max (get_or counts o 0) (share seats o)) (range_with_len 0 owners)) ≡ claims seats

@@ -1,13 +1,13 @@
--- `plan::take_census` meets its contract. Assumes nothing.
+-- `plan::Census::take` meets its contract. Assumes nothing.
 use Rattle.std.proofs.Common.{◌≡◌, refl, ◌∙◌, sym, arith}
 use Rattle.rules.specs.Layout.{phase_at, owner_at}
 use Rattle.rules.specs.Places.{cell_at}
 use Rattle.rules.specs.Plan.{bad_row}
-use Rattle.rows.specs.Search.{passed_more, some_passes}
+use Rattle.rows.specs.Search.{passed_none, passed_more, some_passes}
 use Rattle.plan.specs.Census.{RowOf}
-use Rattle.plan.proofs.Census.{census_sound, held_small}
-use Rattle.plan.proofs.take_census.Goals as goal
-use Rattle.plan.proofs.take_census.Goals.{After-at-owner, After-is_bad_row}
+use Rattle.plan.proofs.Counted.{census_sound, counts_none, held_small}
+use Rattle.plan.proofs.Census.take.Goals as goal
+use Rattle.plan.proofs.Census.take.Goals.{After-at-owner, After-is_bad_row}
 
 -- the two numbers are those of the seat that the loop is at
 row_is : (c : After-at-owner) →
@@ -28,7 +28,10 @@ pub returns-then-is_bad_row : goal.returns-then-is_bad_row
 returns-then-is_bad_row c =
     let row = row_is (goal.at.returns-then-is_bad_row c).After-at-owner in
     let test = test_is (goal.at.returns-then-is_bad_row c).After-is_bad_row row in
-    (refl, some_passes _ _ _ c.loop-i.invariant.0 c.loop-i-test.true (test ∙ c.if-is_bad_row.true))
+    record { ok = tt; err = (refl, some_passes _ _ _ c.loop-i.invariant.0 c.loop-i-test.true (test ∙ c.if-is_bad_row.true)) }
+
+pub loop-i-init : goal.loop-i-init
+loop-i-init c = (passed_none _ _, counts_none _, passed_none _ _)
 
 pub count-requires : goal.count-requires
 count-requires c =
@@ -43,7 +46,7 @@ loop-i-preserved c =
       c.lowest-free.ensures _ row.phase_is so_far.2,
     )
 
-pub returns : goal.returns
-returns c =
+pub invariant_of-result : goal.invariant_of-result
+invariant_of-result c =
     let all = c.loop-i.invariant in
-    rw c.unwrap_or.ensures (census_sound _ _ _ _ all.0 all.1 all.2 (omega arith))
+    record { sound = rw c.unwrap_or-free.ensures (census_sound _ _ _ _ all.0 all.1 all.2 (omega arith)) }
