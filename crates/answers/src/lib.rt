@@ -6,7 +6,7 @@ ghost use Rattle.answers.specs.Promises.{KindIs, NumberIs, SpelledIs};
 
 use rules::Answer;
 
-// The number of an answer's word.
+// The number of an answer's word, by which C knows it.
 pub fn kind_of(a: Answer) -> u64
     ensures { KindIs a result }
 {

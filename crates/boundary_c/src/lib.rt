@@ -1,4 +1,5 @@
 // The calls of `boundary`, as the archive for hosts in C and Rust has them: under the same names, with the same promises.
+// Said twice, as C needs it: an archive is a crate of its own, and exports only what stands in it.
 #![tactic(auto)]
 
 ghost use Rattle.rules.specs.Lent.{lent, left_tables};

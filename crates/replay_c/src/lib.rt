@@ -1,4 +1,5 @@
 // The call of `replay`, as the archive for the tests has it: under the same name, with the same promise.
+// Said twice, as C needs it: an archive is a crate of its own, and exports only what stands in it.
 #![tactic(auto)]
 
 ghost use Rattle.tape.specs.Promises.{Written};

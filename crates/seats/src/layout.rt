@@ -54,7 +54,7 @@ pub const ROW_WIDTH: u64 = WRITE_ITEM + WRITE_WIDTH * MOST_WRITES;
 
 pub const SEATS_LENGTH: u64 = PLAN_WIDTH + ROW_WIDTH * SEATS;
 
-// The phases.
+// The phases. Numbers and no enum: document 01's form is a match on the phase number, with a range for damaged phases.
 pub const FREE: u64 = 0;
 
 pub const WORKING: u64 = 1;

@@ -27,6 +27,7 @@ pub struct Head {
 }
 
 // What stands at a place of a table; 0 past its end.
+// Places are u64, as all numbers of the tables are; lengths are usize. Rust has no `From` between the two, so `as` stands here and wherever they meet.
 pub fn at(list: &[u64], i: u64) -> u64
     ensures { PlaceIs list.now i result }
 {
@@ -135,6 +136,7 @@ impl WriteEntry {
 }
 
 // The first of a row's n read entries, of which there are no more than 16, that names the record.
+// This and `write_of` are no one function with a trait: each is a line, and a trait with its ghost members for the two kinds of entry is twenty.
 pub fn read_of(row: &[u64], n: u64, item: u64) -> Option<u64>
     ensures { ReadEntryIs row.now n item result }
 {
@@ -307,6 +309,7 @@ impl<'a> Row<'a> {
 }
 
 // The head of its row; refused for the lowest number that is due. `unknown`: the call names a record, and there is no such record.
+// The three tables are lent apart, here and in the calls: document 01's form is lent slices, and C lends some to be read and some to be changed.
 pub fn admit(
     values: &[u64],
     words: &[u64],

@@ -45,7 +45,7 @@ impl Line<'_> {
         self.at = end;
     }
 
-    // Puts a number in decimal.
+    // Puts a number in decimal. No `write!`: it needs a `fmt::Write` for the line and an answer to errors that do not occur, and is no plainer.
     fn number(&mut self, n: u64)
         requires { self.old.at + width_of n ≤ length self.old.out.now }
         ensures text { Put self.old.out.now self.old.at (decimal n) self.new.at self.new.out.now }
@@ -92,7 +92,7 @@ fn append(out: &mut [u8], at: usize, head: Option<u64>, letters: &[u8], x: u64) 
     len
 }
 
-// A call's line: its number, a word's letters and a number.
+// A call's line: its number, a word's letters and a number. This and `last` stay beside `append`: docs/PROMISES.md promises both.
 pub fn numbered(out: &mut [u8], at: usize, n: u64, letters: &[u8], x: u64) -> usize
     ensures { Appended out.old at (line n (take most_letters letters.now) x) result out.new }
 {

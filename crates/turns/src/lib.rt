@@ -67,7 +67,7 @@ pub const LAST_ROOM: usize = 40;
 
 const PLAN: usize = PLAN_WIDTH as usize;
 
-// The last line of a bad tape: its fault, and an offset.
+// The last line of a bad tape: its fault, and an offset. A function for the fault's words would have the same four cases, and is no plainer.
 pub fn stop(out: &mut [u8], at: usize, fault: Fault, offset: u64) -> usize
     ensures { Appended out.old at (stop_line (fault_of fault) offset) result out.new }
 {
