@@ -17,6 +17,7 @@ use Rattle.seats.specs.Entries.{IsRead}
 use Rattle.seats.specs.Heads.{HeadOf}
 use Rattle.seats.specs.declared.Head.{Head}
 use Rattle.seats.specs.declared.ReadEntry.{ReadEntry}
+use Rattle.commit.specs.declared.Step.{Step}
 use Rattle.commit.specs.Steps.{ChecksWord}
 
 module _ (t : Tables) (s : ℕ) {h : Head} (q : HeadOf (row t.seats s) h) where
@@ -68,11 +69,11 @@ extends_kept kept_w time word own e = eqb-true (write_time word) kept_w (go (eqb
     go false o q = absurd (not_extends VersionGone q)
 
 -- the clock takes the time: it is not above T, nor below the word's write time
-pub may_extend : {g : List ℕ} {records : ℕ} {h : Head} {e : ReadEntry} (word : ℕ) → ChecksWord g records h e →
-    write_time word ≡ e.kept_write → (write_time word ≤ h.time) × (h.time ≤ top)
-may_extend {h = h} word r w =
+pub may_extend : {s : Step} {e : ReadEntry} (word : ℕ) → ChecksWord s e →
+    write_time word ≡ e.kept_write → (write_time word ≤ s.head.time) × (s.head.time ≤ top)
+may_extend {s} word r w =
     let q = r.in_use.head in
     let entry = r.entry_is in
-    let kept = kept_below _ _ r.in_use.sound h.position (omega arith) (omega arith) in
+    let kept = kept_below _ _ r.in_use.sound s.head.position (omega arith) (omega arith) in
     let late = time-top _ _ r.in_use.sound (omega arith) in
     (omega arith, omega arith)

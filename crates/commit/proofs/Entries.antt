@@ -5,6 +5,7 @@ use Rattle.rules.specs.Advance.{held_locks, seen_time, due_time, commit_time}
 use Rattle.rows.specs.Fine.{locks_small}
 use Rattle.seats.specs.Heads.{HeadOf, head_row}
 use Rattle.seats.specs.declared.Head.{Head}
+use Rattle.commit.specs.declared.Step.{Step}
 use Rattle.commit.specs.Steps.{Holding}
 
 pub commit_is : {g part : List ℕ} → part ≡ g → (words : List ℕ) {n m seen time : ℕ} → n ≡ reads g → m ≡ writes g →
@@ -16,7 +17,7 @@ pub held_is : {g : List ℕ} {h : Head} → HeadOf g h → held_locks g ≡ held
 unfolding held_locks head_row
 held_is q = simp (← q.phase_is, ← q.writes_is, ← q.position_is)
 
-pub held_small : {g : List ℕ} {records : ℕ} {h : Head} → Holding g records h → held_locks (head_row h) ≤ most_writes
+pub held_small : {s : Step} → Holding s → held_locks (head_row s.head) ≤ most_writes
 held_small r =
     let used = r.in_use in
     let p = used.head.phase_is in

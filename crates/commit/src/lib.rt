@@ -1,38 +1,29 @@
 // Advance and Abandon: a commit, step by step, and its end before that.
 #![tactic(auto)]
 
-ghost use Rattle.std.specs.Prelude.{◌≡◌, ℕ, ◌≤◌, length};
+ghost use Rattle.std.specs.Prelude.{◌≡◌, ℕ, ◌≤◌, ltb};
 ghost use Rattle.clock.specs.Word.{is_locked, read_time};
-ghost use Rattle.rules.specs.Layout.{most_reads, row, time as time_of};
-ghost use Rattle.rules.specs.Tables.{Tables};
+ghost use Rattle.rules.specs.Layout.{most_reads, writes};
 ghost use Rattle.rules.specs.Numbers.{abort_number};
-ghost use Rattle.rules.specs.Lent.{lent, left, lent_locks, left_locks, lent_seats, left_seats};
-ghost use Rattle.rules.specs.Advance.{held_locks, released, let_go, moved, lock_step, seen_time};
+ghost use Rattle.rules.specs.Lent.{lent, left};
+ghost use Rattle.rules.specs.Advance.{held_locks, released, let_go, moved, lock_step, seen_time, commit_time};
 ghost use Rattle.rules.specs.Advance.{due_time, time_step, is_blocked, by_word, passed_to, check_step};
 ghost use Rattle.rules.specs.Advance.{seal_step, store_step, done_step, lock_phase, check_phase, store_phase, advance_in};
 ghost use Rattle.rules.specs.declared.Answer.{Answer};
 ghost use Rattle.rules.specs.declared.Answer.TheVariants.{Aborted};
+ghost use Rattle.rules.specs.Work.{write_of};
 ghost use Rattle.seats.specs.Heads.{head_row};
-ghost use Rattle.seats.specs.Ready.{InUse};
-ghost use Rattle.commit.specs.Steps.{Holding, Locking, LocksNext, Checking, ChecksNext, ChecksWord, Storing, StoresNext};
+ghost use Rattle.seats.specs.Entries.{IsRead, IsWrite};
+ghost use Rattle.seats.specs.Promises.{PlaceIs};
+ghost use Rattle.commit.specs.Steps.{HasHead, Holding, Locking, LocksNext, Checking, ChecksNext, ChecksWord, Storing, StoresNext};
+ghost use Rattle.commit.specs.Steps.{row_in, with_lent_words, with_lent_seats, Takes, TakesAll};
 ghost use Rattle.commit.specs.Promises.{AdvanceAnswered, AbandonAnswered};
 
 use rules::{Abort, Answer, Refusal, Verdict};
 use seats::layout::*;
 use seats::{Head, ReadEntry, WriteEntry, admit, at, free_row, give, row_of, store, write_of};
 
-// LETTING GO: an abort and Abandon
-// Clears the locks of a row's first n write entries.
-fn release(words: &mut [u64], row: &[u64], n: u64)
-    ensures { words.new ≡ released words.old row.now n }
-{
-    for i in 0..n {
-        let item = WriteEntry::of(row, i).item;
-        let word = at(words, item);
-        store(words, item, clock::unlock(word));
-    }
-}
-
+// WHAT THE STEPS FIND
 // How many of its write entries a row in phases 1 to 3 holds the locks of.
 fn held_locks(head: Head) -> u64
     ensures { result ≡ held_locks (head_row head) }
@@ -41,45 +32,6 @@ fn held_locks(head: Head) -> u64
         return head.writes;
     }
     head.position
-}
-
-fn let_go(words: &mut [u64], seats: &mut [u64], seat: u64, head: Head)
-    requires { Holding (row seats.old seat) (length words.old) head }
-    ensures { (t : Tables) (a : Answer) → left_locks t a words.new seats.new ≡ let_go (lent_locks t words.old seats.old) seat a }
-{
-    let held = held_locks(head);
-    release(words, row_of(seats, seat), held);
-    free_row(seats, seat);
-}
-
-fn abort(words: &mut [u64], seats: &mut [u64], seat: u64, head: Head, why: Abort) -> Answer
-    requires { Holding (row seats.old seat) (length words.old) head }
-    ensures { (t : Tables) → left_locks t result words.new seats.new ≡ let_go (lent_locks t words.old seats.old) seat (Aborted (abort_number why)) }
-{
-    let_go(words, seats, seat, head);
-    Answer::from(why)
-}
-
-// LOCKING
-fn move_to(seats: &mut [u64], seat: u64, phase: u64, position: u64)
-    ensures { seats.new ≡ moved seats.old seat phase position }
-{
-    give(seats, seat, PHASE, phase);
-    give(seats, seat, POSITION, position);
-}
-
-fn lock_step(words: &mut [u64], seats: &mut [u64], seat: u64, head: Head) -> Answer
-    requires { LocksNext (row seats.old seat) (length words.old) head }
-    ensures { (t : Tables) → left_locks t result words.new seats.new ≡ lock_step (lent_locks t words.old seats.old) seat }
-{
-    let item = WriteEntry::of(row_of(seats, seat), head.position).item;
-    let word = at(words, item);
-    if clock::is_locked(word) {
-        return abort(words, seats, seat, head, Abort::WordLocked);
-    }
-    store(words, item, clock::lock(word));
-    move_to(seats, seat, LOCKING, head.position + 1);
-    Answer::Locked(item)
 }
 
 // The greatest of 0 and the kept write times of a row's first n read entries.
@@ -100,21 +52,6 @@ fn due_time(words: &[u64], row: &[u64], from: u64, n: u64) -> u64
         .fold(from, u64::max)
 }
 
-fn time_step(words: &mut [u64], seats: &mut [u64], seat: u64, head: Head) -> Answer
-    requires { Locking (row seats.old seat) (length words.old) head }
-    ensures { (t : Tables) → left_locks t result words.new seats.new ≡ time_step (lent_locks t words.old seats.old) seat }
-{
-    let row = row_of(seats, seat);
-    let time = due_time(words, row, seen_time(row, head.reads), head.writes);
-    if clock::top() < time {
-        return abort(words, seats, seat, head, Abort::TimeRunOut);
-    }
-    move_to(seats, seat, CHECKING, 0);
-    give(seats, seat, TIME, time);
-    Answer::Timed(time)
-}
-
-// CHECKING
 // Another transaction's lock, with a read time not above the time. `locked` and `read` are the word's.
 fn is_blocked(locked: bool, read: u64, time: u64) -> bool
     ensures { (word : ℕ) → locked ≡ is_locked word → read ≡ read_time word → result ≡ is_blocked word time }
@@ -142,139 +79,240 @@ fn judge(kept_write: u64, time: u64, word: u64, own: bool) -> Verdict
     Verdict::Passes
 }
 
-// Passing a check: position up by one.
-fn pass(seats: &mut [u64], seat: u64, position: u64, item: u64) -> Answer
-    requires { position ≤ most_reads }
-    ensures { (t : Tables) → left_seats t result seats.new ≡ passed_to (lent_seats t seats.old) seat position item }
-{
-    give(seats, seat, POSITION, position + 1);
-    Answer::Checked(item)
-}
-
-fn check_word(
-    words: &mut [u64],
-    seats: &mut [u64],
+// A commit's next step: the tables that it is lent, the seat that takes it, and the head of the seat's row as the step finds it.
+#[derive(Drop)]
+struct Step<'a> {
+    words: &'a mut [u64],
+    seats: &'a mut [u64],
     seat: u64,
     head: Head,
-    entry: ReadEntry,
-) -> Answer
-    requires { ChecksWord (row seats.old seat) (length words.old) head entry }
-    ensures { (t : Tables) → left_locks t result words.new seats.new ≡ check_step (lent_locks t words.old seats.old) seat }
-{
-    let item = entry.item;
-    let word = at(words, item);
-    let own = write_of(row_of(seats, seat), head.writes, item).is_some();
-    match judge(entry.kept_write, head.time, word, own) {
-        Verdict::Passes => pass(seats, seat, head.position, item),
-        Verdict::Extends => {
-            // The time is one that the word can take, so the clock gives a word.
-            store(words, item, clock::extend(word, head.time).unwrap());
-            pass(seats, seat, head.position, item)
+}
+
+impl Step<'_> {
+    // The read entry at position.
+    fn read_entry(&self) -> ReadEntry
+        ensures { IsRead (row_in self.now) self.now.head.position result }
+    {
+        ReadEntry::of(row_of(self.seats, self.seat), self.head.position)
+    }
+
+    fn write_entry(&self, i: u64) -> WriteEntry
+        ensures { IsWrite (row_in self.now) i result }
+    {
+        WriteEntry::of(row_of(self.seats, self.seat), i)
+    }
+
+    fn word(&self, item: u64) -> u64
+        ensures { PlaceIs self.now.words.now item result }
+    {
+        at(self.words, item)
+    }
+
+    // Whether the seat writes the record.
+    fn is_own(&self, item: u64) -> bool
+        requires { HasHead self.now }
+        ensures { result ≡ ltb (write_of (row_in self.now) item) (writes (row_in self.now)) }
+    {
+        write_of(row_of(self.seats, self.seat), self.head.writes, item).is_some()
+    }
+
+    fn commit_time(&self) -> u64
+        requires { HasHead self.now }
+        ensures { result ≡ commit_time self.now.words.now (row_in self.now) }
+    {
+        let row = row_of(self.seats, self.seat);
+        due_time(
+            self.words,
+            row,
+            seen_time(row, self.head.reads),
+            self.head.writes,
+        )
+    }
+
+    // LETTING GO: an abort and Abandon
+    // Clears the locks of the row's first n write entries.
+    fn release(&mut self, n: u64)
+        ensures { self.new ≡ with_lent_words self.old (released self.old.words.now (row_in self.old) n) }
+    {
+        for i in 0..n {
+            let item = self.write_entry(i).item;
+            let word = self.word(item);
+            store(self.words, item, clock::unlock(word));
         }
-        Verdict::Fails(why) => abort(words, seats, seat, head, why),
     }
-}
 
-// Where the kept read time covers the time, the entry passes and nothing else is looked at.
-fn check_step(words: &mut [u64], seats: &mut [u64], seat: u64, head: Head) -> Answer
-    requires { ChecksNext (row seats.old seat) (length words.old) head }
-    ensures { (t : Tables) → left_locks t result words.new seats.new ≡ check_step (lent_locks t words.old seats.old) seat }
-{
-    let entry = ReadEntry::of(row_of(seats, seat), head.position);
-    if head.time <= entry.kept_read {
-        return pass(seats, seat, head.position, entry.item);
+    fn let_go(&mut self, answer: Answer) -> Answer
+        requires { Holding self.old }
+        ensures { Takes (λ t s. let_go t s answer) self.old result self.new }
+    {
+        self.release(held_locks(self.head));
+        free_row(self.seats, self.seat);
+        answer
     }
-    check_word(words, seats, seat, head, entry)
-}
 
-fn seal_step(seats: &mut [u64], seat: u64, time: u64) -> Answer
-    requires { time ≡ time_of (row seats.old seat) }
-    ensures { (t : Tables) → left_seats t result seats.new ≡ seal_step (lent_seats t seats.old) seat }
-{
-    move_to(seats, seat, STORING, 0);
-    Answer::Sealed(time)
-}
-
-// STORING
-fn store_step(
-    values: &mut [u64],
-    words: &mut [u64],
-    seats: &mut [u64],
-    seat: u64,
-    head: Head,
-) -> Answer
-    requires { StoresNext (row seats.old seat) (length words.old) head }
-    ensures { left result values.new words.new seats.new ≡ store_step (lent values.old words.old seats.old) seat }
-{
-    let entry = WriteEntry::of(row_of(seats, seat), head.position);
-    store(values, entry.item, entry.value);
-    // The time is not above T, so the clock gives a word.
-    store(words, entry.item, clock::fresh(head.time).unwrap());
-    give(seats, seat, POSITION, head.position + 1);
-    Answer::Stored(entry.item)
-}
-
-fn done_step(seats: &mut [u64], seat: u64, time: u64) -> Answer
-    requires { time ≡ time_of (row seats.old seat) }
-    ensures { (t : Tables) → left_seats t result seats.new ≡ done_step (lent_seats t seats.old) seat }
-{
-    free_row(seats, seat);
-    Answer::Done(time)
-}
-
-// ADVANCE
-fn lock_phase(words: &mut [u64], seats: &mut [u64], seat: u64, head: Head) -> Answer
-    requires { Locking (row seats.old seat) (length words.old) head }
-    ensures { (t : Tables) → left_locks t result words.new seats.new ≡ lock_phase (lent_locks t words.old seats.old) seat }
-{
-    let held = head.position;
-    if held < head.writes {
-        return lock_step(words, seats, seat, head);
+    fn abort(&mut self, why: Abort) -> Answer
+        requires { Holding self.old }
+        ensures { Takes (λ t s. let_go t s (Aborted (abort_number why))) self.old result self.new }
+    {
+        self.let_go(Answer::from(why))
     }
-    time_step(words, seats, seat, head)
-}
 
-fn check_phase(words: &mut [u64], seats: &mut [u64], seat: u64, head: Head) -> Answer
-    requires { Checking (row seats.old seat) (length words.old) head }
-    ensures { (t : Tables) → left_locks t result words.new seats.new ≡ check_phase (lent_locks t words.old seats.old) seat }
-{
-    if head.position < head.reads {
-        return check_step(words, seats, seat, head);
+    // LOCKING
+    fn move_to(&mut self, phase: u64, position: u64)
+        ensures { self.new ≡ with_lent_seats self.old (moved self.old.seats.now self.old.seat phase position) }
+    {
+        give(self.seats, self.seat, PHASE, phase);
+        give(self.seats, self.seat, POSITION, position);
     }
-    seal_step(seats, seat, head.time)
-}
 
-fn store_phase(
-    values: &mut [u64],
-    words: &mut [u64],
-    seats: &mut [u64],
-    seat: u64,
-    head: Head,
-) -> Answer
-    requires { Storing (row seats.old seat) (length words.old) head }
-    ensures { left result values.new words.new seats.new ≡ store_phase (lent values.old words.old seats.old) seat }
-{
-    if head.position < head.writes {
-        return store_step(values, words, seats, seat, head);
+    fn lock_step(&mut self) -> Answer
+        requires { LocksNext self.old }
+        ensures { Takes lock_step self.old result self.new }
+    {
+        let position = self.head.position;
+        let item = self.write_entry(position).item;
+        let word = self.word(item);
+        if clock::is_locked(word) {
+            return self.abort(Abort::WordLocked);
+        }
+        store(self.words, item, clock::lock(word));
+        self.move_to(LOCKING, position + 1);
+        Answer::Locked(item)
     }
-    done_step(seats, seat, head.time)
-}
 
-fn advance_in(
-    values: &mut [u64],
-    words: &mut [u64],
-    seats: &mut [u64],
-    seat: u64,
-    head: Head,
-) -> Answer
-    requires { InUse (row seats.old seat) (length words.old) head }
-    ensures { left result values.new words.new seats.new ≡ advance_in (lent values.old words.old seats.old) seat }
-{
-    match head.phase {
-        WORKING | LOCKING => lock_phase(words, seats, seat, head),
-        CHECKING => check_phase(words, seats, seat, head),
-        STORING => store_phase(values, words, seats, seat, head),
-        FREE | PAST_PHASES..=u64::MAX => Answer::from(Refusal::Damaged),
+    fn time_step(&mut self) -> Answer
+        requires { Locking self.old }
+        ensures { Takes time_step self.old result self.new }
+    {
+        let time = self.commit_time();
+        if clock::top() < time {
+            return self.abort(Abort::TimeRunOut);
+        }
+        self.move_to(CHECKING, 0);
+        give(self.seats, self.seat, TIME, time);
+        Answer::Timed(time)
+    }
+
+    fn lock_phase(&mut self) -> Answer
+        requires { Locking self.old }
+        ensures { Takes lock_phase self.old result self.new }
+    {
+        let held = self.head.position;
+        if held < self.head.writes {
+            return self.lock_step();
+        }
+        self.time_step()
+    }
+
+    // CHECKING
+    // Passing a check: position up by one.
+    fn pass(&mut self, item: u64) -> Answer
+        requires { self.old.head.position ≤ most_reads }
+        ensures { Takes (λ t s. passed_to t s self.old.head.position item) self.old result self.new }
+    {
+        give(self.seats, self.seat, POSITION, self.head.position + 1);
+        Answer::Checked(item)
+    }
+
+    fn check_word(&mut self, entry: ReadEntry) -> Answer
+        requires { ChecksWord self.old entry }
+        ensures { Takes check_step self.old result self.new }
+    {
+        let item = entry.item;
+        let word = self.word(item);
+        let own = self.is_own(item);
+        match judge(entry.kept_write, self.head.time, word, own) {
+            Verdict::Passes => self.pass(item),
+            Verdict::Extends => {
+                // The time is one that the word can take, so the clock gives a word.
+                store(
+                    self.words,
+                    item,
+                    clock::extend(word, self.head.time).unwrap(),
+                );
+                self.pass(item)
+            }
+            Verdict::Fails(why) => self.abort(why),
+        }
+    }
+
+    // Where the kept read time covers the time, the entry passes and nothing else is looked at.
+    fn check_step(&mut self) -> Answer
+        requires { ChecksNext self.old }
+        ensures { Takes check_step self.old result self.new }
+    {
+        let entry = self.read_entry();
+        if self.head.time <= entry.kept_read {
+            return self.pass(entry.item);
+        }
+        self.check_word(entry)
+    }
+
+    fn seal_step(&mut self) -> Answer
+        requires { Checking self.old }
+        ensures { Takes seal_step self.old result self.new }
+    {
+        self.move_to(STORING, 0);
+        Answer::Sealed(self.head.time)
+    }
+
+    fn check_phase(&mut self) -> Answer
+        requires { Checking self.old }
+        ensures { Takes check_phase self.old result self.new }
+    {
+        if self.head.position < self.head.reads {
+            return self.check_step();
+        }
+        self.seal_step()
+    }
+
+    // STORING
+    fn store_step(&mut self, values: &mut [u64]) -> Answer
+        requires { StoresNext self.old }
+        ensures { TakesAll store_step values.old self.old result values.new self.new }
+    {
+        let position = self.head.position;
+        let entry = self.write_entry(position);
+        store(values, entry.item, entry.value);
+        // The time is not above T, so the clock gives a word.
+        store(
+            self.words,
+            entry.item,
+            clock::fresh(self.head.time).unwrap(),
+        );
+        give(self.seats, self.seat, POSITION, position + 1);
+        Answer::Stored(entry.item)
+    }
+
+    fn done_step(&mut self) -> Answer
+        requires { Storing self.old }
+        ensures { Takes done_step self.old result self.new }
+    {
+        free_row(self.seats, self.seat);
+        Answer::Done(self.head.time)
+    }
+
+    fn store_phase(&mut self, values: &mut [u64]) -> Answer
+        requires { Storing self.old }
+        ensures { TakesAll store_phase values.old self.old result values.new self.new }
+    {
+        if self.head.position < self.head.writes {
+            return self.store_step(values);
+        }
+        self.done_step()
+    }
+
+    // ADVANCE
+    fn advance_in(&mut self, values: &mut [u64]) -> Answer
+        requires { HasHead self.old }
+        ensures { TakesAll advance_in values.old self.old result values.new self.new }
+    {
+        match self.head.phase {
+            WORKING | LOCKING => self.lock_phase(),
+            CHECKING => self.check_phase(),
+            STORING => self.store_phase(values),
+            FREE | PAST_PHASES..=u64::MAX => Answer::from(Refusal::Damaged),
+        }
     }
 }
 
@@ -289,7 +327,13 @@ pub fn advance(
     ensures { AdvanceAnswered (lent values.old words.old seats.old) owner seat (left result values.new words.new seats.new) }
 {
     match admit(values, words, seats, owner, seat, false, STORING) {
-        Ok(head) => advance_in(values, words, seats, seat, head),
+        Ok(head) => Step {
+            words,
+            seats,
+            seat,
+            head,
+        }
+        .advance_in(values),
         Err(why) => Answer::from(why),
     }
 }
@@ -305,10 +349,13 @@ pub fn abandon(
     ensures { AbandonAnswered (lent values.now words.old seats.old) owner seat (left result values.now words.new seats.new) }
 {
     match admit(values, words, seats, owner, seat, false, CHECKING) {
-        Ok(head) => {
-            let_go(words, seats, seat, head);
-            Answer::Dropped(seat)
+        Ok(head) => Step {
+            words,
+            seats,
+            seat,
+            head,
         }
+        .let_go(Answer::Dropped(seat)),
         Err(why) => Answer::from(why),
     }
 }

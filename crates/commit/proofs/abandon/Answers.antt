@@ -1,7 +1,8 @@
 -- `commit::abandon` meets its contract. Assumes nothing.
-use Rattle.std.proofs.Common.{◌∙◌, sym}
+use Rattle.std.proofs.Common.{refl, rules, ◌∙◌, sym}
 use Rattle.rules.specs.Tables.{tables}
 use Rattle.rules.specs.Advance.{abandon}
+use Rattle.seats.specs.Outcomes.{same}
 use Rattle.seats.specs.Ready.{in_use, phase_below, ready_call, refused_call}
 use Rattle.commit.proofs.abandon.Goals as goal
 
@@ -16,5 +17,5 @@ let_go-requires c =
 pub returns-in-Ok : goal.returns-in-Ok
 unfolding abandon
 returns-in-Ok c =
-    c.let_go.ensures (tables c.args.values.now c.args.words.now c.args.seats.now) _
+    same refl refl (search rules) (search rules) ∙ c.let_go.ensures.outcome (tables c.args.values.now c.args.words.now c.args.seats.now)
     ∙ sym (ready_call _ _ _ _ _ _ c.admit.ensures c.in-Ok.is _)

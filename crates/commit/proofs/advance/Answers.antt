@@ -1,6 +1,7 @@
 -- `commit::advance` meets its contract. Assumes nothing.
-use Rattle.std.proofs.Common.{◌∙◌, sym}
+use Rattle.std.proofs.Common.{refl, rules, ◌∙◌, sym}
 use Rattle.rules.specs.Advance.{advance}
+use Rattle.seats.specs.Outcomes.{same}
 use Rattle.seats.specs.Ready.{in_use, ready_call, refused_call}
 use Rattle.commit.proofs.advance.Goals as goal
 
@@ -13,4 +14,6 @@ advance_in-requires c = in_use _ _ _ _ _ _ c.admit.ensures c.in-Ok.is
 
 pub returns-in-Ok : goal.returns-in-Ok
 unfolding advance
-returns-in-Ok c = c.advance_in.ensures ∙ sym (ready_call _ _ _ _ _ _ c.admit.ensures c.in-Ok.is _)
+returns-in-Ok c =
+    same refl refl (search rules) (search rules) ∙ c.advance_in.ensures.outcome
+    ∙ sym (ready_call _ _ _ _ _ _ c.admit.ensures c.in-Ok.is _)
