@@ -23,7 +23,6 @@ use rules::{Abort, Answer, Refusal, Verdict};
 use seats::layout::*;
 use seats::{Head, ReadEntry, WriteEntry, admit, at, free_row, give, row_of, store, write_of};
 
-// WHAT THE STEPS FIND
 // How many of its write entries a row in phases 1 to 3 holds the locks of.
 fn held_locks(head: Head) -> u64
     ensures { result ≡ held_locks (head_row head) }
@@ -89,6 +88,7 @@ struct Step<'a> {
 }
 
 impl Step<'_> {
+    // WHAT IT FINDS
     // The read entry at position.
     fn read_entry(&self) -> ReadEntry
         ensures { IsRead (row_in self.now) self.now.head.position result }
@@ -108,7 +108,7 @@ impl Step<'_> {
         at(self.words, item)
     }
 
-    // Whether the seat writes the record.
+    // Whether the seat writes the record too.
     fn is_own(&self, item: u64) -> bool
         requires { HasHead self.now }
         ensures { result ≡ ltb (write_of (row_in self.now) item) (writes (row_in self.now)) }
@@ -121,12 +121,8 @@ impl Step<'_> {
         ensures { result ≡ commit_time self.now.words.now (row_in self.now) }
     {
         let row = row_of(self.seats, self.seat);
-        due_time(
-            self.words,
-            row,
-            seen_time(row, self.head.reads),
-            self.head.writes,
-        )
+        let seen = seen_time(row, self.head.reads);
+        due_time(self.words, row, seen, self.head.writes)
     }
 
     // LETTING GO: an abort and Abandon
@@ -225,11 +221,8 @@ impl Step<'_> {
             Verdict::Passes => self.pass(item),
             Verdict::Extends => {
                 // The time is one that the word can take, so the clock gives a word.
-                store(
-                    self.words,
-                    item,
-                    clock::extend(word, self.head.time).unwrap(),
-                );
+                let longer = clock::extend(word, self.head.time).unwrap();
+                store(self.words, item, longer);
                 self.pass(item)
             }
             Verdict::Fails(why) => self.abort(why),
@@ -275,11 +268,8 @@ impl Step<'_> {
         let entry = self.write_entry(position);
         store(values, entry.item, entry.value);
         // The time is not above T, so the clock gives a word.
-        store(
-            self.words,
-            entry.item,
-            clock::fresh(self.head.time).unwrap(),
-        );
+        let word = clock::fresh(self.head.time).unwrap();
+        store(self.words, entry.item, word);
         give(self.seats, self.seat, POSITION, position + 1);
         Answer::Stored(entry.item)
     }
@@ -302,7 +292,7 @@ impl Step<'_> {
         self.done_step()
     }
 
-    // ADVANCE
+    // BY ITS PHASE
     fn advance_in(&mut self, values: &mut [u64]) -> Answer
         requires { HasHead self.old }
         ensures { TakesAll advance_in values.old self.old result values.new self.new }
@@ -316,7 +306,7 @@ impl Step<'_> {
     }
 }
 
-// One step of a commit.
+// ADVANCE: one step of a commit.
 pub fn advance(
     values: &mut [u64],
     words: &mut [u64],

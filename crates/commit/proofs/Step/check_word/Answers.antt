@@ -11,8 +11,8 @@ use Rattle.commit.proofs.Step.check_word.Goals.{After-extend, After-judge}
 use Rattle.commit.proofs.Step.check_word.Goals as goal
 
 -- WHERE THE VERDICT IS KNOWN, it is the rules': all three arms begin here
-verdict-is : (t : Tables) (c : After-judge) →
-    judged (lent_locks t c.args.self.now.words.now c.args.self.now.seats.now) c.args.self.now.seat ≡ c.judge.result
+verdict-is : (t : Tables) (c : After-judge) → let step = c.args.self.now in
+    judged (lent_locks t step.words.now step.seats.now) step.seat ≡ c.judge.result
 verdict-is t c =
     let asked = c.requires in
     judged_word _ _ asked.in_use.head asked.entry_is asked.uncovered c.word-word.ensures c.is_own-own.ensures c.judge.ensures
@@ -31,14 +31,14 @@ given c =
     let may = may_extend _ c.requires (extends_kept _ _ _ _ (sym c.judge.ensures ∙ c.in-Extends.is)) in
     c.extend.ensures ∙ extended_to_word _ _ may.0 may.1
 
-pub unwrap-requires : goal.unwrap-requires
-unwrap-requires c = rw (given (goal.at.unwrap-requires c).After-extend) refl
+pub unwrap-longer-requires : goal.unwrap-longer-requires
+unwrap-longer-requires c = rw (given (goal.at.unwrap-longer-requires c).After-extend) refl
 
 pub returns-in-Extends : goal.returns-in-Extends
 returns-in-Extends c =
     let asked = c.requires in
     let word = given (goal.at.returns-in-Extends c).After-extend in
-    let longer : c.unwrap.result ≡ extended c.word-word.result c.args.self.now.head.time = cc (word, c.unwrap.ensures) in
+    let longer : c.unwrap-longer.result ≡ extended c.word-word.result c.args.self.now.head.time = cc (word, c.unwrap-longer.ensures) in
     let passed = c.pass-in-Extends.ensures in
     record {
       same_tables = passed.same_tables;

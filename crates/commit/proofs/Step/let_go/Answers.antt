@@ -10,7 +10,7 @@ unfolding let_go
 returns c =
     let went = c.release.ensures in
     record {
-      same_tables = (ap (λ s. s.words.ghost_name) went, ap (λ s. s.seats.ghost_name) went);
+      same_tables = rw went (refl, refl);
       outcome = λ t.
           simp (held_is c.requires.in_use.head, ← c.held_locks.ensures)
           (same refl refl (ap (λ s. s.words.now) went) (rw went at c.free_row.ensures));

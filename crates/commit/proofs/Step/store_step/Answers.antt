@@ -15,8 +15,8 @@ given c =
     c.fresh.ensures
     ∙ fresh_at_word _ (omega (arith, c.requires.phase_is, used.head.phase_is, used.head.time_is, time-top _ _ used.sound (omega arith)))
 
-pub unwrap-requires : goal.unwrap-requires
-unwrap-requires c = rw (given (goal.at.unwrap-requires c).After-fresh) refl
+pub unwrap-word-requires : goal.unwrap-word-requires
+unwrap-word-requires c = rw (given (goal.at.unwrap-word-requires c).After-fresh) refl
 
 pub returns : goal.returns
 unfolding store_step effect
@@ -24,7 +24,7 @@ returns c =
     let head = c.requires.in_use.head in
     let entry = c.write_entry-entry.ensures in
     let given_word = given (goal.at.returns c).After-fresh in
-    let word : c.unwrap.result ≡ fresh c.args.self.now.head.time = cc (given_word, c.unwrap.ensures) in
+    let word : c.unwrap-word.result ≡ fresh c.args.self.now.head.time = cc (given_word, c.unwrap-word.ensures) in
     record {
       same_tables = (refl, refl);
       outcome =
