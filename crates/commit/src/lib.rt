@@ -9,7 +9,6 @@ ghost use Rattle.rules.specs.Lent.{lent, left};
 ghost use Rattle.rules.specs.Advance.{held_locks, released, let_go, moved, lock_step, seen_time, commit_time};
 ghost use Rattle.rules.specs.Advance.{due_time, time_step, is_blocked, by_word, passed_to, check_step};
 ghost use Rattle.rules.specs.Advance.{seal_step, store_step, done_step, lock_phase, check_phase, store_phase, advance_in};
-ghost use Rattle.rules.specs.declared.Answer.{Answer};
 ghost use Rattle.rules.specs.declared.Answer.TheVariants.{Aborted};
 ghost use Rattle.rules.specs.Work.{write_of};
 ghost use Rattle.seats.specs.Heads.{head_row};

@@ -1,3 +1,4 @@
 -- Laws that the proofs of this crate share.
 pub mod Slides
 pub mod Places
+pub mod Notes

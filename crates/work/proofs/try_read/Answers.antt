@@ -1,7 +1,8 @@
 -- `work::try_read` meets its contract. Assumes nothing.
-use Rattle.std.proofs.Common.{◌∙◌, sym}
+use Rattle.std.proofs.Common.{refl, rules, arith, ◌∙◌, sym}
 use Rattle.std.proofs.lemmas.Result.{err_from_is_err_and}
 use Rattle.rules.specs.Work.{read}
+use Rattle.seats.specs.Outcomes.{same}
 use Rattle.seats.specs.Ready.{in_use, ready_call, refused_call}
 use Rattle.work.proofs.try_read.Goals as goal
 
@@ -12,8 +13,11 @@ returns-in_err-head c =
     rw (p.1, p.2) (refused_call _ _ _ _ c.admit.ensures c.in_err-head.was)
 
 pub read_in-requires : goal.read_in-requires
-read_in-requires c = in_use _ _ _ _ _ _ c.admit.ensures c.in_ok-head.was
+read_in-requires c =
+    let used = in_use _ _ _ _ _ _ c.admit.ensures c.in_ok-head.was in
+    record { reads_is = used.head.reads_is; few_reads = omega arith; writes_is = used.head.writes_is; few_writes = omega arith }
 
 pub returns : goal.returns
 unfolding read
-returns c = c.read_in.ensures ∙ sym (ready_call _ _ _ _ _ _ c.admit.ensures c.in_ok-head.was _)
+returns c =
+    same refl refl refl (search rules) ∙ c.read_in.ensures.outcome ∙ sym (ready_call _ _ _ _ _ _ c.admit.ensures c.in_ok-head.was _)
