@@ -5,9 +5,10 @@ use Rattle.std.proofs.Common.{ap, ◌∙◌, arith, eq-eqb, ne_eqb, lt-ltb, le-l
 use Rattle.std.proofs.lemmas.Bool.{lt-leb}
 use Rattle.std.proofs.Math.Bool.{and-false}
 use Rattle.std.proofs.Math.Decide.{dec_lt}
+use Rattle.clock.specs.declared.Unfit.{Unfit}
 use Rattle.clock.specs.declared.Unfit.TheVariants.{OutOfRange}
 use Rattle.clock.specs.Word.{distance_span, time_span, top, lock_bit, is_locked, distance, write_time, read_time, bit, word_of, with_lock}
-use Rattle.clock.specs.Word.{fresh, extended, packed, fresh_at, extended_to}
+use Rattle.clock.specs.Word.{number, fresh, extended, packed, fresh_at, extended_to}
 use Rattle.clock.specs.Laws.{Is}
 
 -- the ranges
@@ -138,6 +139,10 @@ module _ (b : Bool) (d t : ℕ) where
   pub packed-late : top < t → packed b d t ≡ Err OutOfRange
   unfolding packed
   packed-late ht = simp (lt-leb t top ht, and-false)
+
+-- whatever the clock refuses, it refuses for 2
+pub refuses_two : (why : Unfit) → number why ≡ 2
+refuses_two OutOfRange = refl
 
 pub packed_parts : (w : ℕ) → w < 2 ^ 64 → packed (is_locked w) (distance w) (write_time w) ≡ Ok w
 packed_parts w h = packed_word _ _ _ (distance_small w) (write_time_small w) ∙ ap Ok (word_parts w h)

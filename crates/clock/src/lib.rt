@@ -9,7 +9,7 @@ ghost use Rattle.clock.specs.Promises.{TopIs, LockIs, DistanceIs, WriteTimeIs, R
 #[derive(Clone, Copy, Debug, PartialEq, Eq)]
 pub enum Unfit {
     // Refusal 2: the parts or the time are not to be had in a word.
-    OutOfRange,
+    OutOfRange = 2,
 }
 
 // A word read apart.
@@ -114,10 +114,7 @@ pub fn unlock(w: u64) -> u64
 pub fn fresh(t: u64) -> Result<u64, Unfit>
     ensures { FreshIs t result }
 {
-    if t >= TIME_SPAN {
-        return Err(Unfit::OutOfRange);
-    }
-    Ok(join(false, 0, t))
+    pack(false, 0, t)
 }
 
 // T has a test of its own: with write time T and t = T + 1 the parts would still fit.

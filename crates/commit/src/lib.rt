@@ -78,6 +78,7 @@ fn judge(kept_write: u64, time: u64, word: u64, own: bool) -> Verdict
 }
 
 // A commit's next step: the tables that it is lent, the seat that takes it, and the head of the seat's row as the step finds it.
+// That the head is the row's is asked of most methods and is no ghost field: it holds where a step begins, and not after its first store.
 #[derive(Drop)]
 struct Step<'a> {
     words: &'a mut [u64],

@@ -49,14 +49,14 @@ fn try_setup(
 ) -> Result<Answer, Refusal>
     ensures { SetupAnswered (lent values.now words.old seats.old) start plan.now (left (told result) values.now words.new seats.new) }
 {
-    let records = words.len() as u64;
-    if is_unsized(values.len() as u64, records, seats.len() as u64) {
+    if is_unsized(values.len(), words.len(), seats.len()) {
         return Err(Refusal::WrongSizes);
     }
     let word = clock::fresh(start)?;
     if is_bad_plan(plan) {
         return Err(Refusal::BadPlan);
     }
+    let records = words.len() as u64;
     words.fill(word);
     seats.fill(0);
     lay(seats, plan);
@@ -133,6 +133,7 @@ fn check_owner(share: u64, limit: u64, mine: u64, claims: u64) -> Result<(), Ref
 struct Census<'a> {
     seats: &'a [u64],
     held: [u64; OWNERS as usize],
+    // 64 where none is free, as `free_seat` of the rules has it; then Open is refused.
     free: u64,
     ghost sound: { Sound seats.now held free },
 }
@@ -204,7 +205,7 @@ fn open_row(seats: &mut [u64], seat: u64, owner: u64)
 fn try_open(values: &[u64], words: &[u64], seats: &mut [u64], owner: u64) -> Result<Answer, Refusal>
     ensures { OpenAnswered (lent values.now words.now seats.old) owner (left (told result) values.now words.now seats.new) }
 {
-    if is_unsized(values.len() as u64, words.len() as u64, seats.len() as u64) {
+    if is_unsized(values.len(), words.len(), seats.len()) {
         return Err(Refusal::WrongSizes);
     }
     if OWNERS <= owner {

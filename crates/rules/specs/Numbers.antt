@@ -1,6 +1,9 @@
 -- The document's number of every refusal and of every abort, and what a caller is told.
 use Rattle.std.specs.Prelude.{ℕ, ◌≡◌, refl, false, cond, eqb, Result, Ok, Err}
 use Rattle.std.proofs.Common.{sym, ap, ◌∙◌}
+use Rattle.clock.specs.Word.{number}
+use Rattle.clock.specs.declared.Unfit.{Unfit}
+use Rattle.clock.specs.declared.Unfit.TheVariants.{OutOfRange as Unfitting}
 use Rattle.rules.specs.declared.Answer.{Answer}
 use Rattle.rules.specs.declared.Answer.TheVariants.{Refused}
 use Rattle.rules.specs.declared.Refusal.{Refusal}
@@ -67,6 +70,10 @@ reads_back WritesFull = refl
 reads_back ItemLocked = refl
 reads_back BadPlan = refl
 reads_back SetupAgain = refl
+
+-- the clock's refusal has the same number here
+pub unfit_number : (why : Unfit) → number why ≡ refusal_number OutOfRange
+unfit_number Unfitting = refl
 
 -- 0 is no refusal's number
 pub not_zero : (why : Refusal) → eqb (refusal_number why) 0 ≡ false

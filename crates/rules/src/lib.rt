@@ -9,7 +9,7 @@ ghost use Rattle.rules.specs.Numbers.{refusal_number, abort_number};
 use clock::Unfit;
 
 // What a caller is told: one case for each word of the document, with its number.
-// A refusal and an abort carry the document's number here, not their name: `every_refusal` of reach is said of any number.
+// A refusal and an abort carry the document's number here, not their name: its form is 'Aborted or Refused with its number', and `every_refusal` of reach is said of any.
 #[derive(Clone, Copy, Debug, PartialEq, Eq)]
 pub enum Answer {
     Ready(u64),

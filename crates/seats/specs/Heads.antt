@@ -1,8 +1,9 @@
 -- A row's head, its first six numbers; and the admission of a call.
-use Rattle.std.specs.Prelude.{ℕ, ◌≡◌, cond, List, [], ◌∷◌, eqb, Result, Ok, Err, is_ok}
-use Rattle.std.proofs.Common.{sym, ap, true≢false}
-use Rattle.rules.specs.Layout.{phase, owner, position, reads, writes, time}
+use Rattle.std.specs.Prelude.{ℕ, ◌≤◌, ◌≡◌, false, cond, List, [], ◌∷◌, eqb, Result, Ok, Err, is_ok}
+use Rattle.std.proofs.Common.{sym, ap, true≢false, arith, ltb-false}
+use Rattle.rules.specs.Layout.{most_reads, most_writes, phase, owner, position, reads, writes, time}
 use Rattle.rules.specs.Refusals.{bad_head}
+use Rattle.rows.specs.Fine.{none_of}
 use Rattle.seats.specs.declared.Head.{Head}
 use Rattle.rules.specs.Numbers.{refusal_number, one_number}
 use Rattle.rules.specs.declared.Refusal.{Refusal}
@@ -46,6 +47,15 @@ head_row h = h.phase ∷ h.owner ∷ h.position ∷ h.reads ∷ h.writes ∷ h.t
 pub bad_head_lem : {g : List ℕ} {h : Head} → HeadOf g h → bad_head (head_row h) ≡ bad_head g
 unfolding bad_head head_row
 bad_head_lem q = simp (← q.phase_is, ← q.owner_is, ← q.position_is, ← q.reads_is, ← q.writes_is, ← q.time_is)
+
+-- a head that is in order has no more entries than a row can have
+pub head-fits : (g : List ℕ) {h : Head} → HeadOf g h → bad_head g ≡ false → (h.reads ≤ most_reads) × (h.writes ≤ most_writes)
+unfolding bad_head
+head-fits g q e =
+    let r = none_of _ e in
+    let few-reads : reads g ≤ most_reads = ltb-false _ _ r.1.1.0 in
+    let few-writes : writes g ≤ most_writes = ltb-false _ _ r.1.1.1.0 in
+    (omega arith, omega arith)
 
 -- what a call comes to, before it begins, that is refused for `why`: 0 where it is not
 unfoldable pub admission : ℕ → List ℕ → Result Head ℕ

@@ -1,6 +1,6 @@
 -- What each public function promises, one statement a function: of its result `r`, or of what it leaves of a table, `left`.
 -- `NAME-one` says that the statement leaves one.
-use Rattle.std.specs.Prelude.{ℕ, min, ◌≡◌, Bool, List, get_or, set, Option, Result}
+use Rattle.std.specs.Prelude.{ℕ, min, max, ◌≡◌, Bool, List, length, get_or, set, replicate, Option, Result}
 use Rattle.clock.specs.Promises.{one_result}
 use Rattle.rules.specs.Layout.{most_reads, most_writes, row, put}
 use Rattle.rules.specs.Tables.{Tables}
@@ -29,6 +29,19 @@ StoredAt list i v left = left ≡ set list i v
 
 pub StoredAt-one : (list : List ℕ) (i v : ℕ) (l m : List ℕ) → StoredAt list i v l → StoredAt list i v m → l ≡ m
 StoredAt-one list i v l m = one_result
+
+-- one number throughout a table, and the greater of two: the library's `fill` and `max` do this, under promises of their own
+abbrev pub Filled : List ℕ → ℕ → List ℕ → Type 0
+Filled list v left = left ≡ replicate (length list) v
+
+pub Filled-one : (list : List ℕ) (v : ℕ) (l m : List ℕ) → Filled list v l → Filled list v m → l ≡ m
+Filled-one list v l m = one_result
+
+abbrev pub GreaterIs : ℕ → ℕ → ℕ → Type 0
+GreaterIs a b r = r ≡ max a b
+
+pub GreaterIs-one : (a b r q : ℕ) → GreaterIs a b r → GreaterIs a b q → r ≡ q
+GreaterIs-one a b r q = one_result
 
 -- A SEAT'S ROW
 -- the part of the seat table that is the seat's row

@@ -35,11 +35,14 @@ refused_why why g m e = go (eqb why 0) refl e
     go false q z = (q, ap number_in z)
 
 -- A CALL THAT IS REFUSED answers that, and leaves the tables
-pub refused_call : (t : Tables) (why : ℕ) (g : List ℕ) (o : Outcome) {r : Result Head Refusal} {e : Refusal} → numbered r ≡ admission why g → r ≡ Err e →
-    answered (Refused (refusal_number e)) t ≡ unless why t o
-refused_call t why g o {r} {e} a is =
-    let z = refused_why why g (refusal_number e) (sym a ∙ ap numbered is) in
+pub refused_call : (t : Tables) (why : ℕ) (g : List ℕ) (m : ℕ) (o : Outcome) → admission why g ≡ Err m → answered (Refused m) t ≡ unless why t o
+refused_call t why g m o e =
+    let z = refused_why why g m e in
     rw (z.0, z.1)
+
+pub refused_by_name : (t : Tables) (why : ℕ) (g : List ℕ) (o : Outcome) {r : Result Head Refusal} {e : Refusal} → numbered r ≡ admission why g → r ≡ Err e →
+    answered (Refused (refusal_number e)) t ≡ unless why t o
+refused_by_name t why g o {r} {e} a is = refused_call t why g (refusal_number e) o (sym a ∙ ap numbered is)
 
 -- ONE THAT IS ADMITTED comes to what follows, and knows its row
 module _ (t : Tables) (o s : ℕ) (unknown : Bool) (last : ℕ) (h : Head) {r : Result Head Refusal}

@@ -1,6 +1,6 @@
 -- A seat's row as a part of a table of any length: lent, changed at one place, freed.
 use Rattle.std.specs.Prelude.{ℕ, zero, suc, ◌+◌, ◌-◌, ◌<◌, ◌≤◌, min, ◌≡◌, replicate, List, [], ◌∷◌, ◌++◌}
-use Rattle.std.proofs.Common.{◌∙◌, zero-add, suc-add, add-one, drop_of_length-le, take-append-drop, length-take-le, take_all, arith}
+use Rattle.std.proofs.Common.{◌∙◌, zero-add, suc-add, add-one, drop_of_length-le, take-append-drop, length-take-le, take_all, append-nil, arith}
 use Rattle.std.proofs.Math.Path.{refl, sym, ap}
 use Rattle.std.proofs.Math.Decide.{dec_le}
 use Rattle.std.proofs.lemmas.List.Edits.{fill_more}
@@ -10,6 +10,14 @@ use Rattle.std.proofs.Math.Seq.{set_out, take-nil}
 use Rattle.rules.specs.Layout.{row_width, row_at, row, put}
 use Rattle.rules.proofs.Limits.{length-cleared}
 use Rattle.rules.specs.Plan.{cleared, freed}
+
+-- a table of which the first i places are filled: one more, and the end
+pub filled_more : (i v : ℕ) (d : List ℕ) {l : List ℕ} → l ≡ replicate i v ++ drop i d → i < length d → set l i v ≡ replicate (i + 1) v ++ drop (i + 1) d
+filled_more i v d e h = ap (λ (t : List ℕ). set t i v) e ∙ fill_more i v d h
+
+pub filled_end : (i v : ℕ) (d : List ℕ) {l : List ℕ} → l ≡ replicate i v ++ drop i d → length d ≤ i → i ≤ length d → l ≡ replicate (length d) v
+filled_end i v d e a b =
+    e ∙ ap (λ (t : List ℕ). replicate i v ++ t) (drop_of_length-le d a) ∙ append-nil _ ∙ ap (λ (k : ℕ). replicate k v) (let q : i ≡ length d = omega arith in q)
 
 -- where a list ends, no more is taken of it
 take_min : (w : ℕ) (l : List ℕ) → take (min w (length l)) l ≡ take w l

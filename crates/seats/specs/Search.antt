@@ -1,6 +1,6 @@
 -- A search among the numbers below n, and what is known where it has found one.
 use Rattle.std.specs.Prelude.{ℕ, ◌<◌, ◌≤◌, ◌≡◌, refl, Bool, true, false, cond, Option, Some, None, is_some, unwrap_or}
-use Rattle.std.proofs.Common.{sym, ap, true≢false, arith, ltb-true, ltb-false}
+use Rattle.std.proofs.Common.{sym, ap, ◌∙◌, true≢false, arith, ltb-true, ltb-false}
 use Rattle.rules.specs.Tests.{first, any}
 use Rattle.rows.specs.Search.{first_le}
 
@@ -40,3 +40,7 @@ found_or p n = go (any p n) refl
     go : (b : Bool) → any p n ≡ b → unwrap_or (found_by b (first p n)) n ≡ first p n
     go true q = refl
     go false q = omega (arith, ltb-false (first p n) n q, first_le p n)
+
+-- a loop that goes through the numbers from 0 on: what holds of the first i holds of all n at the end
+pub at_end : {A : Type 0} (F : ℕ → A) {x : A} (i n : ℕ) → x ≡ F i → i ≤ n → n ≤ i → x ≡ F n
+at_end F i n e a b = e ∙ ap F (let q : i ≡ n = omega arith in q)

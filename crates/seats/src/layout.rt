@@ -67,6 +67,3 @@ pub const STORING: u64 = 4;
 
 // The numbers that no phase has: from this one on.
 pub const PAST_PHASES: u64 = STORING + 1;
-
-// The greatest number of 64 bits.
-pub const GREATEST: u64 = u64::MAX;

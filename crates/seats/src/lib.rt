@@ -8,6 +8,7 @@ ghost use Rattle.rules.specs.Lent.{lent};
 ghost use Rattle.rules.specs.Refusals.{misnamed, misplaced, late, bad_read, bad_write, bad_head, damaged, row_refusal};
 ghost use Rattle.seats.specs.Heads.{head_of, HeadOf, head_row, admission, numbered};
 ghost use Rattle.seats.specs.Promises.{PlaceIs, StoredAt, RowIs, RowGiven, RowFreed, ReadEntryAt, WriteEntryAt, ReadEntryIs, WriteEntryIs};
+ghost use Rattle.seats.specs.Search.{found};
 ghost use Rattle.seats.specs.Promises.{UnsizedIs, Admitted};
 
 pub mod layout;
@@ -34,7 +35,7 @@ pub fn at(list: &[u64], i: u64) -> u64
     list.get(i as usize).copied().unwrap_or(0)
 }
 
-// A store at a place of a table; past its end there is none.
+// A store at a place of a table; past its end there is none. No `get_mut`: its contract does not say what the table ends as.
 pub fn store(list: &mut [u64], i: u64, v: u64)
     ensures { StoredAt list.old i v list.new }
 {
@@ -135,23 +136,29 @@ impl WriteEntry {
     }
 }
 
+// The first of a row's n entries whose number there is the record's.
+fn find(row: &[u64], first: u64, width: u64, n: u64, item: u64) -> Option<u64>
+    ensures { result ≡ found (λ i. eqb (get_or row.now (first + width * i) 0) item) n }
+{
+    (0..n).find(|&i| number_of(row, first, width, i) == item)
+}
+
 // The first of a row's n read entries, of which there are no more than 16, that names the record.
-// This and `write_of` are no one function with a trait: each is a line, and a trait with its ghost members for the two kinds of entry is twenty.
 pub fn read_of(row: &[u64], n: u64, item: u64) -> Option<u64>
     ensures { ReadEntryIs row.now n item result }
 {
-    (0..n.min(MOST_READS)).find(|&i| ReadEntry::of(row, i).item == item)
+    find(row, READ_ITEM, READ_WIDTH, n.min(MOST_READS), item)
 }
 
 // The first of a row's n write entries, of which there are no more than 8, that names the record.
 pub fn write_of(row: &[u64], n: u64, item: u64) -> Option<u64>
     ensures { WriteEntryIs row.now n item result }
 {
-    (0..n.min(MOST_WRITES)).find(|&i| WriteEntry::of(row, i).item == item)
+    find(row, WRITE_ITEM, WRITE_WIDTH, n.min(MOST_WRITES), item)
 }
 
 // REFUSAL 1: the tables' lengths.
-pub fn is_unsized(values: u64, words: u64, seats: u64) -> bool
+pub fn is_unsized(values: usize, words: usize, seats: usize) -> bool
     ensures { UnsizedIs values words seats result }
 {
     if values != words {
@@ -160,10 +167,10 @@ pub fn is_unsized(values: u64, words: u64, seats: u64) -> bool
     if words == 0 {
         return true;
     }
-    if MOST_RECORDS < words {
+    if MOST_RECORDS < words as u64 {
         return true;
     }
-    seats != SEATS_LENGTH
+    seats as u64 != SEATS_LENGTH
 }
 
 // REFUSAL 2: an owner, a seat or a record out of range.
@@ -321,10 +328,10 @@ pub fn admit(
 ) -> Result<Head, Refusal>
     ensures { Admitted (lent values.now words.now seats.now) owner seat unknown last result }
 {
-    let records = words.len() as u64;
-    if is_unsized(values.len() as u64, records, seats.len() as u64) {
+    if is_unsized(values.len(), words.len(), seats.len()) {
         return Err(Refusal::WrongSizes);
     }
+    let records = words.len() as u64;
     if is_misnamed(owner, seat, unknown) {
         return Err(Refusal::OutOfRange);
     }

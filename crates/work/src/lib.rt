@@ -103,6 +103,7 @@ impl Noting<'_> {
 
     // WRITE
     // Where a new write entry is placed: before the first one with a greater record number, or last.
+    // No `partition_point`: `place_of` of the rules is said of any row, and a damaged one need not ascend.
     fn place_of(&self, item: u64) -> u64
         requires { Counted self.now }
         ensures { result ≡ place_of (row_in self.now) item }

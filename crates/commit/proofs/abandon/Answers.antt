@@ -3,12 +3,12 @@ use Rattle.std.proofs.Common.{refl, rules, ◌∙◌, sym}
 use Rattle.rules.specs.Tables.{tables}
 use Rattle.rules.specs.Advance.{abandon}
 use Rattle.seats.specs.Outcomes.{same}
-use Rattle.seats.specs.Ready.{in_use, phase_below, ready_call, refused_call}
+use Rattle.seats.specs.Ready.{in_use, phase_below, ready_call, refused_by_name}
 use Rattle.commit.proofs.abandon.Goals as goal
 
 pub returns-in-Err : goal.returns-in-Err
 unfolding abandon
-returns-in-Err c = rw c.from.ensures (refused_call _ _ _ _ c.admit.ensures c.in-Err.is)
+returns-in-Err c = rw c.from.ensures (refused_by_name _ _ _ _ c.admit.ensures c.in-Err.is)
 
 pub let_go-requires : goal.let_go-requires
 let_go-requires c =

@@ -3,14 +3,14 @@ use Rattle.std.proofs.Common.{refl, rules, arith, ◌∙◌, sym}
 use Rattle.std.proofs.lemmas.Result.{err_from_is_err_and}
 use Rattle.rules.specs.Work.{read}
 use Rattle.seats.specs.Outcomes.{same}
-use Rattle.seats.specs.Ready.{in_use, ready_call, refused_call}
+use Rattle.seats.specs.Ready.{in_use, ready_call, refused_by_name}
 use Rattle.work.proofs.try_read.Goals as goal
 
 pub returns-in_err-head : goal.returns-in_err-head
 unfolding read
 returns-in_err-head c =
     let p = err_from_is_err_and c.from_residual.result c.from_residual.ensures.1 in
-    rw (p.1, p.2) (refused_call _ _ _ _ c.admit.ensures c.in_err-head.was)
+    rw (p.1, p.2) (refused_by_name _ _ _ _ c.admit.ensures c.in_err-head.was)
 
 pub read_in-requires : goal.read_in-requires
 read_in-requires c =

@@ -4,14 +4,14 @@ use Rattle.std.proofs.lemmas.Result.{err_from_is_err_and}
 use Rattle.rules.specs.Tables.{tables}
 use Rattle.rules.specs.Work.{write}
 use Rattle.seats.specs.Outcomes.{same}
-use Rattle.seats.specs.Ready.{in_use, ready_call, refused_call}
+use Rattle.seats.specs.Ready.{in_use, ready_call, refused_by_name}
 use Rattle.work.proofs.try_write.Goals as goal
 
 pub returns-in_err-head : goal.returns-in_err-head
 unfolding write
 returns-in_err-head c =
     let p = err_from_is_err_and c.from_residual.result c.from_residual.ensures.1 in
-    rw (p.1, p.2) (refused_call _ _ _ _ c.admit.ensures c.in_err-head.was)
+    rw (p.1, p.2) (refused_by_name _ _ _ _ c.admit.ensures c.in_err-head.was)
 
 pub write_in-requires : goal.write_in-requires
 write_in-requires c =
