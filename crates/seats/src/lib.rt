@@ -28,7 +28,8 @@ pub struct Head {
 }
 
 // What stands at a place of a table; 0 past its end.
-// Places are u64, as all numbers of the tables are; lengths are usize. Rust has no `From` between the two, so `as` stands here and wherever they meet.
+// Places are u64, as all numbers of the tables are; lengths are usize. Rust has no `From` between the two, and a `TryFrom` would need an `unwrap` each
+// time: so `as` stands here and wherever they meet.
 pub fn at(list: &[u64], i: u64) -> u64
     ensures { PlaceIs list.now i result }
 {
