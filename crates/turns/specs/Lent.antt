@@ -1,0 +1,21 @@
+-- The three tables of a tape, as they are lent: what they hold, and the same references with another content.
+use Rattle.std.specs.Prelude.{◌≡◌}
+use Rattle.rules.specs.Tables as rule
+use Rattle.rules.specs.declared.Answer.{Answer}
+use Rattle.turns.specs.declared.Tables.{Tables}
+
+abbrev pub lent_in : Tables → rule.Tables
+lent_in t = rule.tables t.values.now t.words.now t.seats.now
+
+abbrev pub with_lent : Tables → rule.Tables → Tables
+with_lent t x =
+    record t {
+      values = record t.values { now = x.values };
+      words = record t.words { now = x.words };
+      seats = record t.seats { now = x.seats };
+    }
+
+-- what a call on them answers and leaves is an outcome
+pub record Leaves (o : rule.Outcome) (t : Tables) (r : Answer) (t' : Tables) : Type 0 where
+  pub answer : r ≡ o.answer
+  pub tables : t' ≡ with_lent t o.tables
