@@ -6,7 +6,7 @@ use Rattle.text.specs.Text.{greatest, Appended}
 use Rattle.turns.specs.declared.Tables.{Tables}
 use Rattle.turns.specs.Lent.{lent_in}
 use Rattle.turns.specs.Faults.{no_version, stop_line}
-use Rattle.turns.specs.Laws.{put-nothing}
+use Rattle.turns.specs.Laws.{put-nothing, stay_long}
 use Rattle.tape.specs.declared.Counts.{Counts}
 use Rattle.tape.specs.Lines.{State, end_line, version, first_offset}
 use Rattle.tape.specs.Inner.{state_of}
@@ -64,7 +64,7 @@ fits-step : {f : Flow} {buffer : List ℕ} {to : ℕ} {t : Tables} {out : List �
     → unready f buffer to (lent_in t) out ≡ false
     → Goes (stepped (stand_of f (lent_in t) buffer) (part buffer f.waiting to)) buffer t out r buffer' t' out'
     → Stepped f buffer to t out r buffer' t' out'
-fits-step ready k = record { done = λ _. k.went; refused = λ e. absurd (true≢false (sym e ∙ ready)); short = k.short }
+fits-step ready k = record { done = λ _. k.went; refused = λ e. absurd (true≢false (sym e ∙ ready)); short = k.short; lengths = k.lengths }
 
 module _ (f : Flow) (buffer : List ℕ) (to : ℕ) (t : Tables) (out : List ℕ) (ready : unready f buffer to (lent_in t) out ≡ false) where
   g : Fit (length buffer) f.waiting to f.counts (length t.values.now) (length t.words.now) (length out)
@@ -82,7 +82,7 @@ module _ (f : Flow) (buffer : List ℕ) (to : ℕ) (t : Tables) (out : List ℕ)
   pub waits_on : to ≡ 0 → Goes (opened here (part buffer 0 to)) buffer t out (unbegun_at f false 0) buffer t out
   waits_on e =
       rw (opened-none here (part buffer 0 to) (all_length ∙ e))
-      record { went = record { answer_is = refl; buffer_is = refl; tables_are = refl; out_is = refl }; short = λ _. omega arith }
+      record { went = record { answer_is = refl; buffer_is = refl; tables_are = refl; out_is = refl }; short = λ _. omega arith; lengths = stay_long }
 
   pub calls_behind : {r : Flow} {buffer' : List ℕ} {t' : Tables} {out' : List ℕ} → 0 < to → get_or buffer 0 0 ≡ version
       → Goes (onward here (part buffer first_offset to)) buffer t out r buffer' t' out'
@@ -105,6 +105,7 @@ module _ (f : Flow) (buffer : List ℕ) (to : ℕ) (t : Tables) (out : List ℕ)
               out_is = a.text ∙ put_front (stop_line no_version 0) out (omega (arith, no_version_room, g.roomy));
             };
         short = λ z. absurd (true≢false z);
+        lengths = stay_long;
       }
 
   stays_there : f.stopped ≡ true
@@ -122,6 +123,7 @@ module _ (f : Flow) (buffer : List ℕ) (to : ℕ) (t : Tables) (out : List ℕ)
               out_is = refl;
             };
         short = λ z. absurd (true≢false z);
+        lengths = stay_long;
       }
 
   -- A STEP, by its three ways
@@ -145,6 +147,7 @@ halts f buffer to t out why =
       done = λ ready. (stays_there f buffer to t out ready (why ready)).went;
       refused = λ _. record { answer_is = refl; buffer_is = refl; tables_are = refl; out_is = refl };
       short = λ e. absurd (true≢false e);
+      lengths = stay_long;
     }
 
 -- THE LAST LINE, by its three ways

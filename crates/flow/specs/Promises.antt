@@ -5,7 +5,7 @@ use Rattle.text.specs.Text.{put_in}
 use Rattle.rules.specs.Tables as rule
 use Rattle.frames.specs.Decode.{longest}
 use Rattle.turns.specs.declared.Tables.{Tables}
-use Rattle.turns.specs.Lent.{lent_in, with_lent}
+use Rattle.turns.specs.Lent.{lent_in, with_lent, SameLengths}
 use Rattle.tape.specs.Inner.{state_of, counts_in}
 use Rattle.tape.specs.Promises.{at_front, part, unfit_for, Leaves, Leaves-one}
 use Rattle.flow.specs.declared.Flow.{Flow}
@@ -50,6 +50,7 @@ pub record Stepped (f : Flow) (buffer : List ℕ) (to : ℕ) (t : Tables) (out :
       Went (stepped (stand_of f (lent_in t) buffer) (part buffer f.waiting to)) buffer t out r buffer' t' out'
   pub refused : unready f buffer to (lent_in t) out ≡ true → Leaves (halted_at f) buffer t out r buffer' t' out'
   pub short : r.stopped ≡ false → r.waiting < longest
+  pub lengths : SameLengths t t'
 
 pub Stepped-one : {f : Flow} {buffer : List ℕ} {to : ℕ} {t : Tables} {out : List ℕ} {r q : Flow} {b₁ b₂ : List ℕ} {t₁ t₂ : Tables} {o₁ o₂ : List ℕ}
     → Stepped f buffer to t out r b₁ t₁ o₁ → Stepped f buffer to t out q b₂ t₂ o₂ → (r ≡ q) × (b₁ ≡ b₂) × (t₁ ≡ t₂) × (o₁ ≡ o₂)
@@ -74,6 +75,7 @@ Finished-one p q = (p.size ∙ sym q.size, p.text ∙ sym q.text)
 pub record Goes (o : Step) (buffer : List ℕ) (t : Tables) (out : List ℕ) (r : Flow) (buffer' : List ℕ) (t' : Tables) (out' : List ℕ) : Type 0 where
   pub went : Went o buffer t out r buffer' t' out'
   pub short : r.stopped ≡ false → r.waiting < longest
+  pub lengths : SameLengths t t'
 
 -- a flow that has read no version byte 1
 abbrev pub unbegun_at : Flow → Bool → ℕ → Flow

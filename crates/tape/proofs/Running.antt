@@ -12,8 +12,9 @@ use Rattle.turns.specs.declared.Tables.{Tables}
 use Rattle.turns.specs.declared.Turn.{Turn}
 use Rattle.turns.specs.declared.Turn.TheVariants.{Wait, Said, Stop}
 use Rattle.turns.specs.Turns.{Turned, waits, stops, says}
-use Rattle.turns.specs.Lent.{lent_in, with_lent}
+use Rattle.turns.specs.Lent.{lent_in, with_lent, SameLengths}
 use Rattle.turns.specs.Promises.{Taken}
+use Rattle.turns.specs.Laws.{long_on}
 use Rattle.tape.specs.declared.Counts.{Counts}
 use Rattle.tape.specs.Lines.{State, turn_from, further, Fed, ended, behind, fed}
 use Rattle.tape.specs.Inner.{state_of, counts_in, capped, Ran}
@@ -79,6 +80,7 @@ pub record Stands (part : List ℕ) (k₀ : Counts) (T₀ : Tables) (out₀ : Li
   pub calls : k.calls + length t ≤ k₀.calls + length part
   pub small : end ≤ greatest
   pub same : T ≡ with_lent T₀ (lent_in T)
+  pub lengths : SameLengths T₀ T
   pub going : Going (fed (length part) (state_of k₀ (lent_in T₀)) part) out₀ 0 (fed (length t) (state_of k (lent_in T)) t) out end
 
 abbrev pub counts_after : Counts → ℕ → ℕ → Counts
@@ -87,7 +89,7 @@ counts_after k used lent = record { calls = k.calls + 1; offset = k.offset + use
 -- the code matches a turn's answer
 pub taken_as : {u : Turned} {t : Tables} {out : List ℕ} {at : ℕ} {r q : Turn} {t' : Tables} {out' : List ℕ}
     → r ≡ q → Taken u t out at r t' out' → Taken u t out at q t' out'
-taken_as e k = record { turn = sym e ∙ k.turn; tables = k.tables; text = k.text }
+taken_as e k = record { turn = sym e ∙ k.turn; tables = k.tables; text = k.text; lengths = k.lengths }
 
 -- a turn of one kind is none of another
 abbrev turn_kind : Turn → ℕ
@@ -148,18 +150,20 @@ module _ (part : List ℕ) (k₀ : Counts) (T₀ : Tables) (out₀ : List ℕ) (
                   calls = omega (arith, g.calls, n, d.least, d.within);
                   small = capped_greatest end (length x);
                   same = ap (λ (y : Tables). with_lent y t'') g.same;
+                  lengths = rw p.tables at (long_on g.lengths p.lengths);
                   going = going_on (fed (length part) s₀ part) out₀ 0 x (fed (length (drop u t)) next (drop u t)) out end short g';
                 };
           }
 
   -- A RUN THAT ENDS
-  ran : (x : List ℕ) (b : Bool) (q : ℕ) → fed (length t) s t ≡ ended x s t b → T' ≡ T → out' ≡ put_in out end x → q ≡ capped end (length x)
+  ran : (x : List ℕ) (b : Bool) (q : ℕ) → fed (length t) s t ≡ ended x s t b → T' ≡ T → SameLengths T T' → out' ≡ put_in out end x → q ≡ capped end (length x)
       → Ran (fed (length part) s₀ part) T₀ out₀ (record { waiting = length t; counts = counts_in s; end = q; stopped = b }) T' out'
-  ran x b q e same eo eq =
+  ran x b q e same long eo eq =
       let d : Going (fed (length part) s₀ part) out₀ 0 (ended x s t b) out end = rw e at g.going in
       record {
         answer_is = rw (← d.left, ← d.state, ← d.stopped, eq ∙ d.size);
         tables_are = same ∙ g.same ∙ ap (λ (z : State). with_lent T₀ z.tables) d.state;
+        lengths = long_on g.lengths long;
         lines =
             record {
               end = eq ∙ d.size;
@@ -176,7 +180,7 @@ module _ (part : List ℕ) (k₀ : Counts) (T₀ : Tables) (out₀ : List ℕ) (
     where
       go : (u : Turned) → turn_from s t ≡ u → Taken u T out end Wait T' out'
           → Ran (fed (length part) s₀ part) T₀ out₀ (record { waiting = length t; counts = counts_in s; end = end; stopped = false }) T' out'
-      go waits e p = ran [] false end (fed_waits (length t) s t e) p.tables p.text (sym (capped_small end 0 (omega (arith, g.small)) ∙ add-zero end))
+      go waits e p = ran [] false end (fed_waits (length t) s t e) p.tables p.lengths p.text (sym (capped_small end 0 (omega (arith, g.small)) ∙ add-zero end))
       go (stops x) e p = other_turn _ _ p.turn (λ z. omega arith)
       go (says x u records t'') e p = other_turn _ _ p.turn (λ z. omega arith)
 
@@ -190,5 +194,5 @@ module _ (part : List ℕ) (k₀ : Counts) (T₀ : Tables) (out₀ : List ℕ) (
       go (stops x) e p eq =
           let tt = p.turn in
           let el : len ≡ length x = cc in
-          ran x true q (fed_stops (length t) s t x e (le_refl _)) p.tables p.text (eq ∙ ap (λ (m : ℕ). capped end m) el)
+          ran x true q (fed_stops (length t) s t x e (le_refl _)) p.tables p.lengths p.text (eq ∙ ap (λ (m : ℕ). capped end m) el)
       go (says x u records t'') e p eq = other_turn _ _ p.turn (λ z. omega arith)

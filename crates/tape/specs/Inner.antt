@@ -4,7 +4,7 @@ use Rattle.std.proofs.lemmas.List.Edits.{sets}
 use Rattle.text.specs.Text.{greatest}
 use Rattle.rules.specs.Tables as rule
 use Rattle.turns.specs.declared.Tables.{Tables}
-use Rattle.turns.specs.Lent.{with_lent}
+use Rattle.turns.specs.Lent.{with_lent, SameLengths}
 use Rattle.tape.specs.declared.Intake.{Intake}
 use Rattle.tape.specs.declared.Counts.{Counts}
 use Rattle.tape.specs.Lines.{State, Fed}
@@ -34,4 +34,5 @@ pub record LinesIn (xs out : List ℕ) (r : ℕ) (out' : List ℕ) : Type 0 wher
 pub record Ran (f : Fed) (t : Tables) (out : List ℕ) (r : Intake) (t' : Tables) (out' : List ℕ) : Type 0 where
   pub answer_is : r ≡ record { waiting = length f.left; counts = counts_in f.state; end = capped 0 (length f.text); stopped = f.stopped }
   pub tables_are : t' ≡ with_lent t f.state.tables
+  pub lengths : SameLengths t t'
   pub lines : LinesIn f.text out r.end out'

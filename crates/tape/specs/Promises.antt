@@ -7,7 +7,7 @@ use Rattle.rules.specs.Layout.{most_records}
 use Rattle.rules.specs.Tables as rule
 use Rattle.frames.specs.Decode.{longest}
 use Rattle.turns.specs.declared.Tables.{Tables}
-use Rattle.turns.specs.Lent.{lent_in, with_lent}
+use Rattle.turns.specs.Lent.{lent_in, with_lent, SameLengths}
 use Rattle.turns.specs.Turns.{line_room, last_room}
 use Rattle.tape.specs.declared.Intake.{Intake}
 use Rattle.tape.specs.declared.Counts.{Counts}
@@ -109,6 +109,7 @@ pub record Absorbed (buffer : List ℕ) (from to : ℕ) (k : Counts) (t : Tables
       Leaves (intake_of f) (at_front f.left buffer) (with_lent t f.state.tables) (at_front f.text out) r buffer' t' out'
   pub refused : unfit_for buffer from to k (lent_in t) out ≡ true → Leaves (halted k) buffer t out r buffer' t' out'
   pub short : r.stopped ≡ false → r.waiting < longest
+  pub lengths : SameLengths t t'
 
 pub Absorbed-one : {buffer : List ℕ} {from to : ℕ} {k : Counts} {t : Tables} {out : List ℕ} {r q : Intake} {b₁ b₂ : List ℕ} {t₁ t₂ : Tables} {o₁ o₂ : List ℕ}
     → Absorbed buffer from to k t out r b₁ t₁ o₁ → Absorbed buffer from to k t out q b₂ t₂ o₂ → (r ≡ q) × (b₁ ≡ b₂) × (t₁ ≡ t₂) × (o₁ ≡ o₂)

@@ -17,18 +17,18 @@ use Rattle.turns.specs.Calls.{PlanFits, performed, records_after}
 use Rattle.turns.specs.Faults.{fault_of, fault_for, stop_line}
 use Rattle.turns.specs.Turns.{stops, line_of, call_turn, body_turn, frame_turn}
 use Rattle.turns.specs.Promises.{Taken}
-use Rattle.turns.specs.Laws.{Fits, fits, Inside, inside, put-nothing}
+use Rattle.turns.specs.Laws.{stay_long, Fits, fits, Inside, inside, put-nothing}
 
 -- a call that was answered
 pub call_taken : (n records : ℕ) (t : Tables) (c : Call) (b : List ℕ) {a : Answer} {t' : Tables} {len lent at : ℕ} {out out' : List ℕ}
     → Leaves (performed records (lent_in t) c b) t a t' → Appended out at (line_of n a) len out' → lent ≡ records_after records c a
     → Taken (call_turn n records (lent_in t) b c) t out at (Said (length_size + length b) len lent) t' out'
 unfolding call_turn
-call_taken n records t c b e p k = rw (← e.answer) record { turn = rw (p.size, k); tables = e.tables; text = p.text }
+call_taken n records t c b e p k = rw (← e.answer) record { turn = rw (p.size, k); tables = e.tables; text = p.text; lengths = e.lengths }
 
 -- a fault that stops the tape
 pub stop_taken : {x : List ℕ} {t : Tables} {len at : ℕ} {out out' : List ℕ} → Appended out at x len out' → Taken (stops x) t out at (Stop len) t out'
-stop_taken p = record { turn = ap Stop p.size; tables = refl; text = p.text }
+stop_taken p = record { turn = ap Stop p.size; tables = refl; text = p.text; lengths = stay_long }
 
 -- a body that is no call
 pub bad_turn : (n offset records : ℕ) (t : rule.Tables) (b : List ℕ) (e : BadCall)
@@ -41,8 +41,8 @@ bad_turn n offset records t b Misfit = refl
 pub waits_for : (n offset records : ℕ) {at : ℕ} {t : Tables} (rest : List ℕ) {out : List ℕ} (f : Frame) → ((k : ℕ) → f ≡ Body k → ⊥)
     → Taken (frame_turn n offset records (lent_in t) rest f) t out at Wait t out
 unfolding frame_turn
-waits_for n offset records rest Nothing h = record { turn = refl; tables = refl; text = put-nothing _ _ }
-waits_for n offset records rest Short h = record { turn = refl; tables = refl; text = put-nothing _ _ }
+waits_for n offset records rest Nothing h = record { turn = refl; tables = refl; text = put-nothing _ _; lengths = stay_long }
+waits_for n offset records rest Short h = record { turn = refl; tables = refl; text = put-nothing _ _; lengths = stay_long }
 waits_for n offset records rest (Body k) h = absurd (h k refl)
 
 -- a Setup's body has its plan

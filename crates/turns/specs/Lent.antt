@@ -1,5 +1,5 @@
 -- The three tables of a tape, as they are lent: what they hold, and the same references with another content.
-use Rattle.std.specs.Prelude.{◌≡◌}
+use Rattle.std.specs.Prelude.{◌≡◌, length}
 use Rattle.rules.specs.Tables as rule
 use Rattle.rules.specs.declared.Answer.{Answer}
 use Rattle.turns.specs.declared.Tables.{Tables}
@@ -15,7 +15,14 @@ with_lent t x =
       seats = record t.seats { now = x.seats };
     }
 
+-- each table keeps its length
+pub record SameLengths (t t' : Tables) : Type 0 where
+  pub values_are : length t'.values.now ≡ length t.values.now
+  pub words_are : length t'.words.now ≡ length t.words.now
+  pub seats_are : length t'.seats.now ≡ length t.seats.now
+
 -- what a call on them answers and leaves is an outcome
 pub record Leaves (o : rule.Outcome) (t : Tables) (r : Answer) (t' : Tables) : Type 0 where
   pub answer : r ≡ o.answer
   pub tables : t' ≡ with_lent t o.tables
+  pub lengths : SameLengths t t'

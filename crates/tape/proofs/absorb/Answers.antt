@@ -81,6 +81,7 @@ returns c =
           took a.buf.now a.tables.now a.out.now a.from a.to (fed_at k) c.feed-r.result _ _ c.feed-r.ensures (ends k) g.behind g.inside _ c.copy_within.ensures.after
           (omega (arith, text_room _ (state_at k) (part_at k) n, part_length fine, g.roomy)) (omega (arith, c.well_formed));
       refused = λ e. absurd (true≢false (sym e ∙ not-unfit fine));
+      lengths = c.feed-r.ensures.lengths;
       short =
           waits_few a.buf.now a.tables.now a.out.now a.from a.to (fed_at k) c.feed-r.result _ _ c.feed-r.ensures (ends k) g.behind g.inside (λ i. search rules)
           (grown _ (state_at k) (part_at k) n).wanting;

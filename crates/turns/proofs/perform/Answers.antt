@@ -1,5 +1,5 @@
 -- `turns::perform` meets its contract: each call is its rule on what it is lent. Assumes nothing.
-use Rattle.std.proofs.Common.{ℕ, ◌≡◌, List, ◌++◌, take, drop}
+use Rattle.std.proofs.Common.{ℕ, ◌≡◌, refl, List, ◌++◌, length, take, drop}
 use Rattle.rules.specs.Tables as rule
 use Rattle.rules.specs.Plan.{open_seat}
 use Rattle.rules.specs.Work.{read, write}
@@ -20,6 +20,7 @@ returned : {a : Answer} {v w s : List ℕ} (c : After-first_of-m) (f : rule.Tabl
     let i = c.first_of-n.result in
     let j = c.first_of-m.result in
     rule.answered a (rule.tables v w s) ≡ f (rule.tables (take i t.values.now) (take j t.words.now) t.seats.now)
+    → length v ≡ length (take i t.values.now) → length w ≡ length (take j t.words.now) → length s ≡ length t.seats.now
     → Leaves (rule.answered o.answer (given_back (lent_in t) n o.tables)) t a
     (with_lent t (rule.tables (v ++ drop i t.values.now) (w ++ drop j t.words.now) s))
 returned c f = given_back_lem c.args.tables.now c.args.records c.first_of-n.ensures c.first_of-m.ensures f
@@ -30,32 +31,32 @@ unfolding performed step
 returns-in-Open c =
     let d = c.in-Open in
     let lent = (goal.at.returns-in-Open c).After-first_of-m in
-    rw c.in-Open.is (returned lent (λ (x : rule.Tables). open_seat x d.owner) c.open.ensures)
+    rw c.in-Open.is (returned lent (λ (x : rule.Tables). open_seat x d.owner) c.open.ensures refl refl c.open.auto.seats)
 
 pub returns-in-Read : goal.returns-in-Read
 unfolding performed step
 returns-in-Read c =
     let d = c.in-Read in
     let lent = (goal.at.returns-in-Read c).After-first_of-m in
-    rw c.in-Read.is (returned lent (λ (x : rule.Tables). read x d.owner d.seat d.item) c.read.ensures)
+    rw c.in-Read.is (returned lent (λ (x : rule.Tables). read x d.owner d.seat d.item) c.read.ensures refl refl c.read.auto.seats)
 
 pub returns-in-Write : goal.returns-in-Write
 unfolding performed step
 returns-in-Write c =
     let d = c.in-Write in
     let lent = (goal.at.returns-in-Write c).After-first_of-m in
-    rw c.in-Write.is (returned lent (λ (x : rule.Tables). write x d.owner d.seat d.item d.value) c.write.ensures)
+    rw c.in-Write.is (returned lent (λ (x : rule.Tables). write x d.owner d.seat d.item d.value) c.write.ensures refl refl c.write.auto.seats)
 
 pub returns-in-Advance : goal.returns-in-Advance
 unfolding performed step
 returns-in-Advance c =
     let d = c.in-Advance in
     let lent = (goal.at.returns-in-Advance c).After-first_of-m in
-    rw c.in-Advance.is (returned lent (λ (x : rule.Tables). advance x d.owner d.seat) c.advance.ensures)
+    rw c.in-Advance.is (returned lent (λ (x : rule.Tables). advance x d.owner d.seat) c.advance.ensures c.advance.auto.values c.advance.auto.words c.advance.auto.seats)
 
 pub returns-in-Abandon : goal.returns-in-Abandon
 unfolding performed step
 returns-in-Abandon c =
     let d = c.in-Abandon in
     let lent = (goal.at.returns-in-Abandon c).After-first_of-m in
-    rw c.in-Abandon.is (returned lent (λ (x : rule.Tables). abandon x d.owner d.seat) c.abandon.ensures)
+    rw c.in-Abandon.is (returned lent (λ (x : rule.Tables). abandon x d.owner d.seat) c.abandon.ensures refl c.abandon.auto.words c.abandon.auto.seats)

@@ -1,5 +1,5 @@
 -- `turns::set_up` meets its contract. Assumes nothing.
-use Rattle.std.proofs.Common.{arith}
+use Rattle.std.proofs.Common.{refl, arith}
 use Rattle.rules.specs.Tables.{Tables}
 use Rattle.rules.specs.Plan.{setup}
 use Rattle.rules.specs.Calls.{step}
@@ -15,4 +15,4 @@ returns c =
     let t = a.tables.now in
     rw (setup-lent a.records a.count a.start (lent_in t) a.b.now (omega arith) (omega arith), ← c.plan_of-plan.ensures)
     (given_back_lem t a.count c.first_of-n.ensures c.first_of-m.ensures
-    (λ (x : Tables). setup x a.start c.plan_of-plan.result) c.setup.ensures)
+    (λ (x : Tables). setup x a.start c.plan_of-plan.result) c.setup.ensures refl c.setup.auto.words c.setup.auto.seats)
