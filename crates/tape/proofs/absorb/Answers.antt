@@ -53,7 +53,8 @@ ends : (c : After-feed-r) → let f = fed_at c in f.left ≡ drop (length (part_
 ends c = left_is_end (length (part_at c)) (state_at c) (part_at c) (le_refl _)
 
 waits_within : (c : After-feed-r) → let a = c.args in
-    Fit (length a.buf.now) a.from a.to a.k (length a.tables.now.values.now) (length a.tables.now.words.now) (length a.out.now) → c.feed-r.result.waiting ≤ a.to - a.from
+    Fit (length a.buf.now) a.from a.to a.k (length a.tables.now.values.now) (length a.tables.now.words.now) (length a.out.now)
+    → c.feed-r.result.waiting ≤ a.to - a.from
 waits_within c g =
     let a = c.args in
     left_fits a.buf.now a.tables.now a.out.now a.from a.to (fed_at c) c.feed-r.result _ _ c.feed-r.ensures (ends c) g.behind g.inside
@@ -78,7 +79,8 @@ returns c =
     let n = le_refl (length (part_at k)) in
     record {
       done = λ _.
-          took a.buf.now a.tables.now a.out.now a.from a.to (fed_at k) c.feed-r.result _ _ c.feed-r.ensures (ends k) g.behind g.inside _ c.copy_within.ensures.after
+          took a.buf.now a.tables.now a.out.now a.from a.to (fed_at k) c.feed-r.result _ _ c.feed-r.ensures (ends k) g.behind g.inside _
+          c.copy_within.ensures.after
           (omega (arith, text_room _ (state_at k) (part_at k) n, part_length fine, g.roomy)) (omega (arith, c.well_formed));
       refused = λ e. absurd (true≢false (sym e ∙ not-unfit fine));
       lengths = c.feed-r.ensures.lengths;

@@ -52,7 +52,8 @@ unfolding performed step
 returns-in-Advance c =
     let d = c.in-Advance in
     let lent = (goal.at.returns-in-Advance c).After-first_of-m in
-    rw c.in-Advance.is (returned lent (λ (x : rule.Tables). advance x d.owner d.seat) c.advance.ensures c.advance.auto.values c.advance.auto.words c.advance.auto.seats)
+    let long = c.advance.auto in
+    rw c.in-Advance.is (returned lent (λ (x : rule.Tables). advance x d.owner d.seat) c.advance.ensures long.values long.words long.seats)
 
 pub returns-in-Abandon : goal.returns-in-Abandon
 unfolding performed step
