@@ -5,7 +5,7 @@ use Rattle.std.proofs.lemmas.List.{take-append-drop}
 use Rattle.rules.specs.Tables as rule
 use Rattle.rules.specs.declared.Answer.{Answer}
 use Rattle.turns.specs.declared.Tables.{Tables}
-use Rattle.turns.specs.Lent.{lent_in, with_lent, Leaves}
+use Rattle.turns.specs.Lent.{lent_in, with_lent, Answered}
 use Rattle.turns.specs.Calls.{first_records, given_back, FirstOf}
 
 -- what comes back of a part is as long as the part, so the whole is as long as before
@@ -28,7 +28,7 @@ module _ (t : Tables) (n : ℕ) {i j : ℕ} (p : FirstOf n (length t.values.now)
   pub given_back_lem : (f : rule.Tables → rule.Outcome) {a : Answer} {v w s : List ℕ} → rule.answered a (rule.tables v w s) ≡ f lent_part
       → length v ≡ length (take i found.values) → length w ≡ length (take j found.words) → length s ≡ length found.seats
       → let o = f (first_records found n) in
-      Leaves (rule.answered o.answer (given_back found n o.tables)) t a
+      Answered (rule.answered o.answer (given_back found n o.tables)) t a
       (with_lent t (rule.tables (v ++ drop i found.values) (w ++ drop j found.words) s))
   given_back_lem f {a} {v} {w} {s} e lv lw ls =
       let g : rule.answered a (rule.tables v w s) ≡ f (first_records found n) = e ∙ ap f lent_is in

@@ -12,7 +12,7 @@ use Rattle.frames.specs.declared.Frame.TheVariants.{Nothing, Short, Body}
 use Rattle.frames.specs.Decode.{length_size, frame_of, decoded}
 use Rattle.turns.specs.declared.Tables.{Tables}
 use Rattle.turns.specs.declared.Turn.TheVariants.{Wait, Said, Stop}
-use Rattle.turns.specs.Lent.{lent_in, Leaves}
+use Rattle.turns.specs.Lent.{lent_in, Answered}
 use Rattle.turns.specs.Calls.{PlanFits, performed, records_after}
 use Rattle.turns.specs.Faults.{fault_of, fault_for, stop_line}
 use Rattle.turns.specs.Turns.{stops, line_of, call_turn, body_turn, frame_turn}
@@ -21,7 +21,7 @@ use Rattle.turns.specs.Laws.{stay_long, Fits, fits, Inside, inside, put-nothing}
 
 -- a call that was answered
 pub call_taken : (n records : ℕ) (t : Tables) (c : Call) (b : List ℕ) {a : Answer} {t' : Tables} {len lent at : ℕ} {out out' : List ℕ}
-    → Leaves (performed records (lent_in t) c b) t a t' → Appended out at (line_of n a) len out' → lent ≡ records_after records c a
+    → Answered (performed records (lent_in t) c b) t a t' → Appended out at (line_of n a) len out' → lent ≡ records_after records c a
     → Taken (call_turn n records (lent_in t) b c) t out at (Said (length_size + length b) len lent) t' out'
 unfolding call_turn
 call_taken n records t c b e p k = rw (← e.answer) record { turn = rw (p.size, k); tables = e.tables; text = p.text; lengths = e.lengths }

@@ -15,14 +15,14 @@ with_lent t x =
       seats = record t.seats { now = x.seats };
     }
 
--- each table keeps its length
+-- each table keeps its length, which the type of a slice says and that of a struct of references does not
 pub record SameLengths (t t' : Tables) : Type 0 where
   pub values_are : length t'.values.now ≡ length t.values.now
   pub words_are : length t'.words.now ≡ length t.words.now
   pub seats_are : length t'.seats.now ≡ length t.seats.now
 
--- what a call on them answers and leaves is an outcome
-pub record Leaves (o : rule.Outcome) (t : Tables) (r : Answer) (t' : Tables) : Type 0 where
+-- what a call on them answers, and leaves of them, is an outcome
+pub record Answered (o : rule.Outcome) (t : Tables) (r : Answer) (t' : Tables) : Type 0 where
   pub answer : r ≡ o.answer
   pub tables : t' ≡ with_lent t o.tables
   pub lengths : SameLengths t t'

@@ -5,7 +5,7 @@ ghost use Rattle.std.specs.Prelude.{◌≡◌, length, take, drop};
 ghost use Rattle.text.specs.Text.{Appended};
 ghost use Rattle.rules.specs.Layout.{plan_width};
 ghost use Rattle.frames.specs.Decode.{decoded, plan_from, setup_size};
-ghost use Rattle.turns.specs.Lent.{lent_in, Leaves};
+ghost use Rattle.turns.specs.Lent.{lent_in, Answered};
 ghost use Rattle.turns.specs.Faults.{fault_of, fault_for, stop_line};
 ghost use Rattle.turns.specs.Calls.{PlanFits, FirstOf, performed, records_after};
 ghost use Rattle.turns.specs.Turns.{line_of, call_turn, body_turn, turn_of};
@@ -52,7 +52,7 @@ pub enum Turn {
     },
 }
 
-// The tables that a tape is played on, as they are lent.
+// The tables that a tape is played on, as they are lent. Who is lent the struct leaves the same references in it (`with_lent`).
 #[derive(Drop)]
 pub struct Tables<'a> {
     pub values: &'a mut [u64],
@@ -114,7 +114,7 @@ fn first_of(n: u64, len: usize) -> usize
 #[tactic(auto, using(crate::specs::Laws::setup_again_lem, crate::specs::Laws::setup_many))]
 fn set_up(count: u64, start: u64, b: &[u8], records: u64, tables: &mut Tables<'_>) -> Answer
     requires { length b.now ≡ setup_size }
-    ensures { Leaves (performed records (lent_in tables.old) (Call.Setup count start) b.now) tables.old result tables.new }
+    ensures { Answered (performed records (lent_in tables.old) (Call.Setup count start) b.now) tables.old result tables.new }
 {
     if 0 < records {
         return Answer::from(Refusal::SetupAgain);
@@ -134,7 +134,7 @@ fn set_up(count: u64, start: u64, b: &[u8], records: u64, tables: &mut Tables<'_
 // One call on the program's tables, of which it is lent what Setup gave.
 fn perform(c: Call, b: &[u8], records: u64, tables: &mut Tables<'_>) -> Answer
     requires { PlanFits c b.now }
-    ensures { Leaves (performed records (lent_in tables.old) c b.now) tables.old result tables.new }
+    ensures { Answered (performed records (lent_in tables.old) c b.now) tables.old result tables.new }
 {
     let n = first_of(records, tables.values.len());
     let m = first_of(records, tables.words.len());

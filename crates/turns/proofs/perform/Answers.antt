@@ -6,7 +6,7 @@ use Rattle.rules.specs.Work.{read, write}
 use Rattle.rules.specs.Advance.{advance, abandon}
 use Rattle.rules.specs.Calls.{step}
 use Rattle.rules.specs.declared.Answer.{Answer}
-use Rattle.turns.specs.Lent.{lent_in, with_lent, Leaves}
+use Rattle.turns.specs.Lent.{lent_in, with_lent, Answered}
 use Rattle.turns.specs.Calls.{first_records, given_back, performed}
 use Rattle.turns.proofs.Lending.{given_back_lem}
 use Rattle.turns.proofs.perform.Goals as goal
@@ -21,7 +21,7 @@ returned : {a : Answer} {v w s : List ℕ} (c : After-first_of-m) (f : rule.Tabl
     let j = c.first_of-m.result in
     rule.answered a (rule.tables v w s) ≡ f (rule.tables (take i t.values.now) (take j t.words.now) t.seats.now)
     → length v ≡ length (take i t.values.now) → length w ≡ length (take j t.words.now) → length s ≡ length t.seats.now
-    → Leaves (rule.answered o.answer (given_back (lent_in t) n o.tables)) t a
+    → Answered (rule.answered o.answer (given_back (lent_in t) n o.tables)) t a
     (with_lent t (rule.tables (v ++ drop i t.values.now) (w ++ drop j t.words.now) s))
 returned c f = given_back_lem c.args.tables.now c.args.records c.first_of-n.ensures c.first_of-m.ensures f
 
