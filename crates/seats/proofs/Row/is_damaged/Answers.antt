@@ -37,7 +37,12 @@ by_entries c = in_use _ (head_is c.args.self.now.head_is) c.if-self-eq-FREE.fals
 pub returns-then-some_bad_read : goal.returns-then-some_bad_read
 unfolding bad_entry one_of
 returns-then-some_bad_read c =
-    simp (by_entries (goal.at.returns-then-some_bad_read c).Else-is_bad, ← (head_is c.args.self.now.head_is).reads_is, ← c.some_bad_read.ensures, c.if-some_bad_read.true)
+    simp (
+      by_entries (goal.at.returns-then-some_bad_read c).Else-is_bad,
+      ← (head_is c.args.self.now.head_is).reads_is,
+      ← c.some_bad_read.ensures,
+      c.if-some_bad_read.true,
+    )
 
 pub returns : goal.returns
 unfolding bad_entry one_of
