@@ -3,9 +3,10 @@ use Rattle.std.proofs.Common.{ℕ, ◌+◌, ◌-◌, ◌≤◌, ◌<◌, arith, 
 use Rattle.std.proofs.Common.{length, take, drop, get_or, take-append-drop, length-take-le, take-add, get_or-take, eq-eqb, ne_eqb, le-leb}
 use Rattle.std.proofs.Math.Nat.{sub-zero}
 use Rattle.text.specs.Text.{greatest, Appended}
-use Rattle.rules.specs.Tables.{Tables}
+use Rattle.turns.specs.declared.Tables.{Tables}
+use Rattle.turns.specs.Lent.{lent_in}
 use Rattle.turns.specs.Faults.{no_version, stop_line}
-use Rattle.turns.specs.Laws.{put-nothing}
+use Rattle.turns.specs.Laws.{put-nothing, stay_long}
 use Rattle.tape.specs.declared.Counts.{Counts}
 use Rattle.tape.specs.Lines.{State, end_line, version, first_offset}
 use Rattle.tape.specs.Inner.{state_of}
@@ -60,17 +61,17 @@ opened_bad s t h e = simp (ne_eqb (length t) 0 (λ z. omega arith), ne_eqb (get_
 
 -- a step over a part that is fit
 fits-step : {f : Flow} {buffer : List ℕ} {to : ℕ} {t : Tables} {out : List ℕ} {r : Flow} {buffer' : List ℕ} {t' : Tables} {out' : List ℕ}
-    → unready f buffer to t out ≡ false
-    → Goes (stepped (stand_of f t buffer) (part buffer f.waiting to)) buffer out r buffer' t' out'
+    → unready f buffer to (lent_in t) out ≡ false
+    → Goes (stepped (stand_of f (lent_in t) buffer) (part buffer f.waiting to)) buffer t out r buffer' t' out'
     → Stepped f buffer to t out r buffer' t' out'
-fits-step ready k = record { done = λ _. k.went; refused = λ e. absurd (true≢false (sym e ∙ ready)); short = k.short }
+fits-step ready k = record { done = λ _. k.went; refused = λ e. absurd (true≢false (sym e ∙ ready)); short = k.short; lengths = k.lengths }
 
-module _ (f : Flow) (buffer : List ℕ) (to : ℕ) (t : Tables) (out : List ℕ) (ready : unready f buffer to t out ≡ false) where
-  g : Fit (length buffer) f.waiting to f.counts (length t.values) (length t.words) (length out)
+module _ (f : Flow) (buffer : List ℕ) (to : ℕ) (t : Tables) (out : List ℕ) (ready : unready f buffer to (lent_in t) out ≡ false) where
+  g : Fit (length buffer) f.waiting to f.counts (length t.values.now) (length t.words.now) (length out)
   g = fit ready
 
   abbrev here : State
-  here = state_of f.counts t
+  here = state_of f.counts (lent_in t)
 
   all_length : length (part buffer 0 to) ≡ to
   all_length = length-take-le (to - 0) buffer (omega (arith, g.inside)) ∙ sub-zero to
@@ -78,21 +79,21 @@ module _ (f : Flow) (buffer : List ℕ) (to : ℕ) (t : Tables) (out : List ℕ)
   all_first : 0 < to → get_or (part buffer 0 to) 0 0 ≡ get_or buffer 0 0
   all_first h = get_or-take (to - 0) buffer 0 0 (omega arith)
 
-  pub waits_on : to ≡ 0 → Goes (opened here (part buffer 0 to)) buffer out (unbegun_at f false 0) buffer t out
+  pub waits_on : to ≡ 0 → Goes (opened here (part buffer 0 to)) buffer t out (unbegun_at f false 0) buffer t out
   waits_on e =
       rw (opened-none here (part buffer 0 to) (all_length ∙ e))
-      record { went = record { answer_is = refl; buffer_is = refl; tables_are = refl; out_is = refl }; short = λ _. omega arith }
+      record { went = record { answer_is = refl; buffer_is = refl; tables_are = refl; out_is = refl }; short = λ _. omega arith; lengths = stay_long }
 
   pub calls_behind : {r : Flow} {buffer' : List ℕ} {t' : Tables} {out' : List ℕ} → 0 < to → get_or buffer 0 0 ≡ version
-      → Goes (onward here (part buffer first_offset to)) buffer out r buffer' t' out'
-      → Goes (opened here (part buffer 0 to)) buffer out r buffer' t' out'
+      → Goes (onward here (part buffer first_offset to)) buffer t out r buffer' t' out'
+      → Goes (opened here (part buffer 0 to)) buffer t out r buffer' t' out'
   calls_behind h e k =
       let d : drop first_offset (part buffer 0 to) ≡ part buffer first_offset to =
       drop-take buffer first_offset (to - 0) (omega arith) ∙ ap (λ (n : ℕ). take (n - first_offset) (drop first_offset buffer)) (sub-zero to) in
       rw (opened_calls here (part buffer 0 to) (omega (arith, all_length)) (all_first h ∙ e), d) k
 
   pub other_version : {n : ℕ} {out' : List ℕ} → 0 < to → (get_or buffer 0 0 ≡ version → ⊥) → Appended out 0 (stop_line no_version 0) n out'
-      → Goes (opened here (part buffer 0 to)) buffer out (unbegun_at f true n) buffer t out'
+      → Goes (opened here (part buffer 0 to)) buffer t out (unbegun_at f true n) buffer t out'
   other_version h e a =
       rw (opened_bad here (part buffer 0 to) (omega (arith, all_length)) (λ z. e (sym (all_first h) ∙ z)))
       record {
@@ -104,10 +105,11 @@ module _ (f : Flow) (buffer : List ℕ) (to : ℕ) (t : Tables) (out : List ℕ)
               out_is = a.text ∙ put_front (stop_line no_version 0) out (omega (arith, no_version_room, g.roomy));
             };
         short = λ z. absurd (true≢false z);
+        lengths = stay_long;
       }
 
   stays_there : f.stopped ≡ true
-      → Goes (stepped (stand_of f t buffer) (part buffer f.waiting to)) buffer out (halted_at f) buffer t out
+      → Goes (stepped (stand_of f (lent_in t) buffer) (part buffer f.waiting to)) buffer t out (halted_at f) buffer t out
   unfolding stepped
   stays_there e =
       let n : length (take f.waiting buffer) ≡ f.waiting = length-take-le f.waiting buffer (omega (arith, g.inside, g.behind)) in
@@ -121,29 +123,31 @@ module _ (f : Flow) (buffer : List ℕ) (to : ℕ) (t : Tables) (out : List ℕ)
               out_is = refl;
             };
         short = λ z. absurd (true≢false z);
+        lengths = stay_long;
       }
 
   -- A STEP, by its three ways
   pub goes_on : {r : Flow} {buffer' : List ℕ} {t' : Tables} {out' : List ℕ} → f.stopped ≡ false → f.begun ≡ true
-      → Goes (onward here (part buffer 0 to)) buffer out r buffer' t' out'
+      → Goes (onward here (part buffer 0 to)) buffer t out r buffer' t' out'
       → Stepped f buffer to t out r buffer' t' out'
   unfolding stepped
   goes_on e b k = fits-step ready (rw (e, b, front_joins buffer f.waiting to g.behind) k)
 
   pub opens : {r : Flow} {buffer' : List ℕ} {t' : Tables} {out' : List ℕ} → f.stopped ≡ false → f.begun ≡ false
-      → Goes (opened here (part buffer 0 to)) buffer out r buffer' t' out'
+      → Goes (opened here (part buffer 0 to)) buffer t out r buffer' t' out'
       → Stepped f buffer to t out r buffer' t' out'
   unfolding stepped
   opens e b k = fits-step ready (rw (e, b, front_joins buffer f.waiting to g.behind) k)
 
 -- unfit, or stopped before
-pub halts : (f : Flow) (buffer : List ℕ) (to : ℕ) (t : Tables) (out : List ℕ) → (unready f buffer to t out ≡ false → f.stopped ≡ true)
+pub halts : (f : Flow) (buffer : List ℕ) (to : ℕ) (t : Tables) (out : List ℕ) → (unready f buffer to (lent_in t) out ≡ false → f.stopped ≡ true)
     → Stepped f buffer to t out (halted_at f) buffer t out
 halts f buffer to t out why =
     record {
       done = λ ready. (stays_there f buffer to t out ready (why ready)).went;
       refused = λ _. record { answer_is = refl; buffer_is = refl; tables_are = refl; out_is = refl };
       short = λ e. absurd (true≢false e);
+      lengths = stay_long;
     }
 
 -- THE LAST LINE, by its three ways

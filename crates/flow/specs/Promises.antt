@@ -2,15 +2,17 @@
 use Rattle.std.specs.Prelude.{ℕ, ◌<◌, ◌≡◌, refl, Bool, true, false, List, [], length, take}
 use Rattle.std.proofs.Common.{sym, ◌∙◌}
 use Rattle.text.specs.Text.{put_in}
-use Rattle.rules.specs.Tables.{Tables}
+use Rattle.rules.specs.Tables as rule
 use Rattle.frames.specs.Decode.{longest}
+use Rattle.turns.specs.declared.Tables.{Tables}
+use Rattle.turns.specs.Lent.{lent_in, with_lent, SameLengths}
 use Rattle.tape.specs.Inner.{state_of, counts_in}
 use Rattle.tape.specs.Promises.{at_front, part, unfit_for, Leaves, Leaves-one}
 use Rattle.flow.specs.declared.Flow.{Flow}
 use Rattle.flow.specs.Parts.{Stand, Step, start, stepped, closing}
 
 -- A FLOW'S STAND, over the program's tables and its buffer, at whose front the bytes wait
-abbrev pub stand_of : Flow → Tables → List ℕ → Stand
+abbrev pub stand_of : Flow → rule.Tables → List ℕ → Stand
 stand_of f t buffer = record { begun = f.begun; stopped = f.stopped; state = state_of f.counts t; left = take f.waiting buffer }
 
 -- the flow of a step, whose text is still to be written
@@ -36,23 +38,25 @@ Started-one p q = p ∙ sym q
 abbrev pub halted_at : Flow → Flow
 halted_at f = record { begun = f.begun; stopped = true; waiting = f.waiting; counts = f.counts; end = 0 }
 
-abbrev pub unready : Flow → List ℕ → ℕ → Tables → List ℕ → Bool
+abbrev pub unready : Flow → List ℕ → ℕ → rule.Tables → List ℕ → Bool
 unready f buffer to t out = unfit_for buffer f.waiting to f.counts t out
 
-abbrev pub Went : Step → List ℕ → List ℕ → Flow → List ℕ → Tables → List ℕ → Type 0
-Went o buffer out = Leaves (flow_of o) (at_front o.stand.left buffer) o.stand.state.tables (at_front o.text out)
+abbrev pub Went : Step → List ℕ → Tables → List ℕ → Flow → List ℕ → Tables → List ℕ → Type 0
+Went o buffer t out = Leaves (flow_of o) (at_front o.stand.left buffer) (with_lent t o.stand.state.tables) (at_front o.text out)
 
 pub record Stepped (f : Flow) (buffer : List ℕ) (to : ℕ) (t : Tables) (out : List ℕ) (r : Flow) (buffer' : List ℕ) (t' : Tables) (out' : List ℕ)
     : Type 0 where
-  pub done : unready f buffer to t out ≡ false → Went (stepped (stand_of f t buffer) (part buffer f.waiting to)) buffer out r buffer' t' out'
-  pub refused : unready f buffer to t out ≡ true → Leaves (halted_at f) buffer t out r buffer' t' out'
+  pub done : unready f buffer to (lent_in t) out ≡ false →
+      Went (stepped (stand_of f (lent_in t) buffer) (part buffer f.waiting to)) buffer t out r buffer' t' out'
+  pub refused : unready f buffer to (lent_in t) out ≡ true → Leaves (halted_at f) buffer t out r buffer' t' out'
   pub short : r.stopped ≡ false → r.waiting < longest
+  pub lengths : SameLengths t t'
 
 pub Stepped-one : {f : Flow} {buffer : List ℕ} {to : ℕ} {t : Tables} {out : List ℕ} {r q : Flow} {b₁ b₂ : List ℕ} {t₁ t₂ : Tables} {o₁ o₂ : List ℕ}
     → Stepped f buffer to t out r b₁ t₁ o₁ → Stepped f buffer to t out q b₂ t₂ o₂ → (r ≡ q) × (b₁ ≡ b₂) × (t₁ ≡ t₂) × (o₁ ≡ o₂)
-Stepped-one {f} {buffer} {to} {t} {out} {r} {q} {b₁} {b₂} {t₁} {t₂} {o₁} {o₂} a b = go (unready f buffer to t out) refl
+Stepped-one {f} {buffer} {to} {t} {out} {r} {q} {b₁} {b₂} {t₁} {t₂} {o₁} {o₂} a b = go (unready f buffer to (lent_in t) out) refl
   where
-    go : (bad : Bool) → unready f buffer to t out ≡ bad → (r ≡ q) × (b₁ ≡ b₂) × (t₁ ≡ t₂) × (o₁ ≡ o₂)
+    go : (bad : Bool) → unready f buffer to (lent_in t) out ≡ bad → (r ≡ q) × (b₁ ≡ b₂) × (t₁ ≡ t₂) × (o₁ ≡ o₂)
     go true e = Leaves-one (a.refused e) (b.refused e)
     go false e = Leaves-one (a.done e) (b.done e)
 
@@ -68,9 +72,10 @@ pub Finished-one : {f : Flow} {out : List ℕ} {r q : ℕ} {a b : List ℕ} → 
 Finished-one p q = (p.size ∙ sym q.size, p.text ∙ sym q.text)
 
 -- WHAT THE INNER FUNCTIONS LEAVE: a step, and fewer bytes that wait than the longest frame has
-pub record Goes (o : Step) (buffer out : List ℕ) (r : Flow) (buffer' : List ℕ) (t' : Tables) (out' : List ℕ) : Type 0 where
-  pub went : Went o buffer out r buffer' t' out'
+pub record Goes (o : Step) (buffer : List ℕ) (t : Tables) (out : List ℕ) (r : Flow) (buffer' : List ℕ) (t' : Tables) (out' : List ℕ) : Type 0 where
+  pub went : Went o buffer t out r buffer' t' out'
   pub short : r.stopped ≡ false → r.waiting < longest
+  pub lengths : SameLengths t t'
 
 -- a flow that has read no version byte 1
 abbrev pub unbegun_at : Flow → Bool → ℕ → Flow

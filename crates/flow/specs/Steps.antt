@@ -4,8 +4,9 @@ use Rattle.std.proofs.Common.{arith, le_refl, length-drop, length-append}
 use Rattle.std.proofs.Math.Seq.{take-append_seam}
 use Rattle.text.specs.Text.{width_in, width_of}
 use Rattle.rules.specs.Layout.{most_records}
-use Rattle.rules.specs.Tables.{Tables}
 use Rattle.rows.specs.Fine.{cond_ind}
+use Rattle.turns.specs.declared.Tables.{Tables}
+use Rattle.turns.specs.Lent.{lent_in}
 use Rattle.turns.specs.Faults.{no_version, stop_line}
 use Rattle.turns.specs.Turns.{last_room}
 use Rattle.turns.specs.Laws.{stop_line_lem}
@@ -61,7 +62,7 @@ closing_room begun stopped waiting calls offset =
     cond_ind (λ (l : List ℕ). length l ≤ last_room) begun (λ _. end_line_lem (eqb waiting 0) calls offset) (λ _. no_version_room))
 
 -- where a step ended, the next one starts
-pub stands : (o : Step) (buffer out : List ℕ) {r : Flow} {buffer' : List ℕ} {t' : Tables} {out' : List ℕ} → Went o buffer out r buffer' t' out'
-    → stand_of r t' buffer' ≡ o.stand
-stands o buffer out w =
+pub stands : (o : Step) (buffer : List ℕ) (t : Tables) (out : List ℕ) {r : Flow} {buffer' : List ℕ} {t' : Tables} {out' : List ℕ}
+    → Went o buffer t out r buffer' t' out' → stand_of r (lent_in t') buffer' ≡ o.stand
+stands o buffer t out w =
     rw (w.answer_is, w.buffer_is, w.tables_are, take-append_seam o.stand.left (drop (length o.stand.left) buffer))

@@ -2,14 +2,14 @@
 #![tactic(auto)]
 
 ghost use Rattle.std.specs.Prelude.{◌≡◌, false};
-ghost use Rattle.rules.specs.Lent.{lent_now, lent, left_tables};
+ghost use Rattle.turns.specs.Lent.{lent_in};
 ghost use Rattle.tape.specs.Inner.{state_of};
 ghost use Rattle.tape.specs.Promises.{part, unfit_for};
 ghost use Rattle.flow.specs.Parts.{onward, opened};
 ghost use Rattle.flow.specs.Promises.{unready, Goes, Started, Stepped, Finished};
 
 use tape::{CALLS_FROM, Counts, Intake, OPENING, VERSION};
-use turns::Fault;
+use turns::{Fault, Tables};
 
 // What is kept from one part of a tape to the next.
 // Two flags and no enum of stages: all four pairs occur, as a flow that is stopped keeps `begun` (`halted_at`).
@@ -39,27 +39,25 @@ pub fn start() -> Flow
     }
 }
 
-// Takes the calls of buf's bytes from `from` up to `to`. The tables are lent apart, for the reason that `tape::feed` gives.
+// Takes the calls of buf's bytes from `from` up to `to`.
 fn take_calls(
     k: Counts,
     buf: &mut [u8],
     from: usize,
     to: usize,
-    values: &mut [u64],
-    words: &mut [u64],
-    seats: &mut [u64],
+    tables: &mut Tables<'_>,
     out: &mut [u8],
 ) -> Flow
-    requires { unfit_for buf.old from to k (lent_now values.old words.old seats.old) out.old ≡ false }
-    ensures { Goes (onward (state_of k (lent values.old words.old seats.old)) (part buf.old from to)) buf.old out.old
-        result buf.new (left_tables values.new words.new seats.new) out.new }
+    requires { unfit_for buf.old from to k (lent_in tables.old) out.old ≡ false }
+    ensures { Goes (onward (state_of k (lent_in tables.old)) (part buf.old from to)) buf.old tables.old out.old
+        result buf.new tables.new out.new }
 {
     let Intake {
         waiting,
         counts,
         end,
         stopped,
-    } = tape::absorb(buf, from, to, k, values, words, seats, out);
+    } = tape::absorb(buf, from, to, k, tables, out);
     Flow {
         begun: true,
         stopped,
@@ -70,18 +68,10 @@ fn take_calls(
 }
 
 // Takes the first bytes of a tape: its version byte, and the calls behind it.
-fn open_tape(
-    f: Flow,
-    buf: &mut [u8],
-    to: usize,
-    values: &mut [u64],
-    words: &mut [u64],
-    seats: &mut [u64],
-    out: &mut [u8],
-) -> Flow
-    requires { unready f buf.old to (lent_now values.old words.old seats.old) out.old ≡ false }
-    ensures { Goes (opened (state_of f.counts (lent values.old words.old seats.old)) (part buf.old 0 to)) buf.old out.old
-        result buf.new (left_tables values.new words.new seats.new) out.new }
+fn open_tape(f: Flow, buf: &mut [u8], to: usize, tables: &mut Tables<'_>, out: &mut [u8]) -> Flow
+    requires { unready f buf.old to (lent_in tables.old) out.old ≡ false }
+    ensures { Goes (opened (state_of f.counts (lent_in tables.old)) (part buf.old 0 to)) buf.old tables.old out.old
+        result buf.new tables.new out.new }
 {
     if to == 0 {
         return Flow {
@@ -93,7 +83,7 @@ fn open_tape(
         };
     }
     if buf[0] == VERSION {
-        return take_calls(f.counts, buf, CALLS_FROM, to, values, words, seats, out);
+        return take_calls(f.counts, buf, CALLS_FROM, to, tables, out);
     }
     let end = turns::stop(out, 0, Fault::NoVersion, 0);
     Flow {
@@ -106,25 +96,16 @@ fn open_tape(
 }
 
 // Takes a part of a tape: the first `to` bytes of buf are those that waited, and what was read behind them.
-pub fn step(
-    f: Flow,
-    buf: &mut [u8],
-    to: usize,
-    values: &mut [u64],
-    words: &mut [u64],
-    seats: &mut [u64],
-    out: &mut [u8],
-) -> Flow
-    ensures { Stepped f buf.old to (lent values.old words.old seats.old) out.old
-        result buf.new (left_tables values.new words.new seats.new) out.new }
+pub fn step(f: Flow, buf: &mut [u8], to: usize, tables: &mut Tables<'_>, out: &mut [u8]) -> Flow
+    ensures { Stepped f buf.old to tables.old out.old result buf.new tables.new out.new }
 {
     let unfit = tape::is_unfit(
         buf.len(),
         f.waiting,
         to,
         f.counts,
-        values.len(),
-        words.len(),
+        tables.values.len(),
+        tables.words.len(),
         out.len(),
     );
     if unfit || f.stopped {
@@ -135,9 +116,9 @@ pub fn step(
         };
     }
     if f.begun {
-        return take_calls(f.counts, buf, 0, to, values, words, seats, out);
+        return take_calls(f.counts, buf, 0, to, tables, out);
     }
-    open_tape(f, buf, to, values, words, seats, out)
+    open_tape(f, buf, to, tables, out)
 }
 
 // Puts what is printed where the tape ends into out, and answers how many bytes it is.

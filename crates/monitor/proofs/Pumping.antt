@@ -1,6 +1,7 @@
 -- The program's lengths and numbers make every step whole, and the next one too. Assumes nothing.
 use Rattle.std.proofs.Common.{ℕ, ◌-◌, ◌≤◌, arith, ◌≡◌, refl, ap, ◌∙◌, false, List, ◌++◌, length, take, drop, length-drop, length-append, length-take-le}
-use Rattle.rules.specs.Tables.{Tables}
+use Rattle.turns.specs.declared.Tables.{Tables}
+use Rattle.turns.specs.Lent.{lent_in}
 use Rattle.tape.specs.Lines.{opening}
 use Rattle.tape.specs.Promises.{part}
 use Rattle.tape.specs.Room.{not-unfit, put_front}
@@ -15,8 +16,8 @@ pub first_turn : {f : Flow} → Started f → Proceeds f most_turns
 unfolding opening
 first_turn e = rw e record { going = refl; roomy = omega arith; calls = omega arith; offset = omega arith; records = omega arith }
 
-module _ (f : Flow) (buffer : List ℕ) (to : ℕ) (t : Tables) (out : List ℕ) (asked : Asked f buffer to t out) where
-  fine : unready f buffer to t out ≡ false
+module _ (f : Flow) (buffer : List ℕ) (to : ℕ) (t : Tables) (out : List ℕ) (asked : Asked f buffer to (lent_in t) out) where
+  fine : unready f buffer to (lent_in t) out ≡ false
   fine =
       not-unfit
       record {
@@ -31,7 +32,7 @@ module _ (f : Flow) (buffer : List ℕ) (to : ℕ) (t : Tables) (out : List ℕ)
       }
 
   abbrev stand : Stand
-  stand = stand_of f t buffer
+  stand = stand_of f (lent_in t) buffer
 
   all_bytes : length (stand.left ++ part buffer f.waiting to) ≡ to
   all_bytes =
@@ -61,6 +62,7 @@ module _ (f : Flow) (buffer : List ℕ) (to : ℕ) (t : Tables) (out : List ℕ)
         calls = omega (arith, h.calls asked.proceeds.calls);
         offset = omega (arith, h.offset);
         records = omega (arith, h.records asked.proceeds.records);
+        lengths = s.lengths;
       }
 
 -- the last line has room

@@ -1,7 +1,9 @@
 -- What the program lends, and what its steps keep to.
 use Rattle.std.specs.Prelude.{ℕ, ◌+◌, ◌-◌, ◌*◌, ◌/◌, ◌≤◌, ◌<◌, ◌≡◌, false, List, Result, IfOk, length, take}
 use Rattle.rules.specs.Layout.{most_records}
-use Rattle.rules.specs.Tables.{Tables}
+use Rattle.rules.specs.Tables as rule
+use Rattle.turns.specs.declared.Tables.{Tables}
+use Rattle.turns.specs.Lent.{lent_in, SameLengths}
 use Rattle.frames.specs.Decode.{longest}
 use Rattle.tape.specs.Promises.{at_front, part, far_off, room_for}
 use Rattle.monitor.specs.declared.Failure.{Failure}
@@ -16,7 +18,7 @@ input_length = longest
 abbrev pub output_length : ℕ
 output_length = room_for input_length
 
-pub record Buffers (buffer : List ℕ) (t : Tables) (out : List ℕ) : Type 0 where
+pub record Buffers (buffer : List ℕ) (t : rule.Tables) (out : List ℕ) : Type 0 where
   pub input : length buffer ≡ input_length
   pub values_are : length t.values ≡ most_records
   pub words_are : length t.words ≡ most_records
@@ -35,7 +37,7 @@ pub record Proceeds (f : Flow) (turns : ℕ) : Type 0 where
   pub records : f.counts.records ≤ most_records
 
 -- what a step asks for
-pub record Asked (f : Flow) (buffer : List ℕ) (to : ℕ) (t : Tables) (out : List ℕ) : Type 0 where
+pub record Asked (f : Flow) (buffer : List ℕ) (to : ℕ) (t : rule.Tables) (out : List ℕ) : Type 0 where
   pub buffers : Buffers buffer t out
   pub proceeds : Proceeds f 1
   pub behind : f.waiting ≤ to
@@ -54,12 +56,13 @@ pub record Fetched (buffer : List ℕ) (waiting : ℕ) (r : Result ℕ Failure) 
 -- a part's step, done whole, and its numbers
 pub record Pumped (f : Flow) (buffer : List ℕ) (to : ℕ) (t : Tables) (out : List ℕ) (r : Flow) (buffer' : List ℕ) (t' : Tables) (out' : List ℕ)
     : Type 0 where
-  pub went : Went (stepped (stand_of f t buffer) (part buffer f.waiting to)) buffer out r buffer' t' out'
+  pub went : Went (stepped (stand_of f (lent_in t) buffer) (part buffer f.waiting to)) buffer t out r buffer' t' out'
   pub fits : r.end ≤ output_length
   pub roomy : r.stopped ≡ false → r.waiting < input_length
   pub calls : r.counts.calls ≤ r.counts.offset
   pub offset : r.counts.offset + r.waiting ≤ f.counts.offset + to
   pub records : r.counts.records ≤ most_records
+  pub lengths : SameLengths t t'
 
 -- the last line, whole
 pub record Ended (f : Flow) (out : List ℕ) (r : ℕ) (out' : List ℕ) : Type 0 where

@@ -2,7 +2,7 @@
 #![tactic(auto)]
 
 ghost use Rattle.std.specs.Prelude.{◌≡◌, ◌≤◌, ◌<◌, length, IfOk};
-ghost use Rattle.rules.specs.Lent.{lent_now, lent, left_tables};
+ghost use Rattle.turns.specs.Lent.{lent_in};
 ghost use Rattle.monitor.specs.Program.{output_length, Buffers, Fetched, Asked, Pumped, Ended};
 
 use flow::Flow;
@@ -12,7 +12,7 @@ use std::error::Error;
 use std::io::{ErrorKind, Print, Read, Write};
 use std::{fmt, io, thread};
 use tape::FAR_OFF;
-use turns::{LAST_ROOM, LINE_ROOM};
+use turns::{LAST_ROOM, LINE_ROOM, Tables};
 
 // One frame always fits.
 const INPUT: usize = LONGEST;
@@ -117,20 +117,11 @@ fn fetch(rt: &HostRuntime, buf: &mut [u8], waiting: usize) -> Result<usize, Fail
 }
 
 // Takes what was read: the step is done whole.
-fn pump(
-    f: Flow,
-    buf: &mut [u8],
-    to: usize,
-    values: &mut [u64],
-    words: &mut [u64],
-    seats: &mut [u64],
-    out: &mut [u8],
-) -> Flow
-    requires { Asked f buf.old to (lent_now values.old words.old seats.old) out.old }
-    ensures { Pumped f buf.old to (lent values.old words.old seats.old) out.old
-        result buf.new (left_tables values.new words.new seats.new) out.new }
+fn pump(f: Flow, buf: &mut [u8], to: usize, tables: &mut Tables<'_>, out: &mut [u8]) -> Flow
+    requires { Asked f buf.old to (lent_in tables.old) out.old }
+    ensures { Pumped f buf.old to tables.old out.old result buf.new tables.new out.new }
 {
-    flow::step(f, buf, to, values, words, seats, out)
+    flow::step(f, buf, to, tables, out)
 }
 
 // Takes the end of the input: the last line is whole.
@@ -141,16 +132,14 @@ fn close(f: Flow, out: &mut [u8]) -> usize
     flow::finish(f, out)
 }
 
-// Reads, hands on what was read, and writes what is given, to the end of the tape. The tables are lent apart, for the reason that `tape::feed` gives.
+// Reads, hands on what was read, and writes what is given, to the end of the tape.
 fn play(
     rt: &HostRuntime,
     buf: &mut [u8],
-    values: &mut [u64],
-    words: &mut [u64],
-    seats: &mut [u64],
+    tables: &mut Tables<'_>,
     out: &mut [u8],
 ) -> Result<(), Failure>
-    requires { Buffers buf.old (lent_now values.old words.old seats.old) out.old }
+    requires { Buffers buf.old (lent_in tables.old) out.old }
 {
     let mut f = flow::start();
     for _ in 0..TURNS {
@@ -160,7 +149,7 @@ fn play(
             let end = close(f, out);
             return put(rt, &out[..end]);
         }
-        f = pump(f, buf, to, values, words, seats, out);
+        f = pump(f, buf, to, tables, out);
         put(rt, &out[..f.end])?;
         if f.stopped {
             return Ok(());
@@ -183,7 +172,12 @@ fn play_input(rt: &HostRuntime) -> Result<(), Failure> {
     let mut words = [0u64; tape::RECORDS];
     let mut seats = [0u64; tape::SEATS];
     let mut out = buffer::<OUTPUT>();
-    play(rt, &mut buf, &mut values, &mut words, &mut seats, &mut out)
+    let mut tables = Tables {
+        values: &mut values,
+        words: &mut words,
+        seats: &mut seats,
+    };
+    play(rt, &mut buf, &mut tables, &mut out)
 }
 
 // There is no argument to take but the one that asks how the program is used.

@@ -7,14 +7,17 @@ use Rattle.std.proofs.Math.Seq.{length-sets}
 use Rattle.std.proofs.lemmas.List.Edits.{sets}
 use Rattle.text.specs.Text.{greatest, put_in}
 use Rattle.text.specs.Puts.{sets_at, put-fits}
-use Rattle.rules.specs.Tables.{Tables}
 use Rattle.rows.specs.Fine.{cond_ind}
+use Rattle.turns.specs.declared.Tables.{Tables}
 use Rattle.turns.specs.declared.Turn.{Turn}
 use Rattle.turns.specs.declared.Turn.TheVariants.{Wait, Said, Stop}
 use Rattle.turns.specs.Turns.{Turned, waits, stops, says}
+use Rattle.turns.specs.Lent.{lent_in, with_lent, SameLengths}
 use Rattle.turns.specs.Promises.{Taken}
+use Rattle.turns.specs.Laws.{long_on}
+use Rattle.tape.specs.declared.Counts.{Counts}
 use Rattle.tape.specs.Lines.{State, turn_from, further, Fed, ended, behind, fed}
-use Rattle.tape.specs.Inner.{counts_in, capped, Ran}
+use Rattle.tape.specs.Inner.{state_of, counts_in, capped, Ran}
 use Rattle.tape.specs.Runs.{turn_from_fits, fed_waits, fed_stops, fed_says, fed_fuel}
 
 -- SUMS THAT STOP
@@ -71,17 +74,22 @@ going_on whole out₀ from x rest out p h g =
           ∙ g.text i;
     }
 
--- WHAT HOLDS WHERE A TURN IS TO COME, of a run over `part` that began at s₀ and stands at s, before the rest t
-pub record Stands (part : List ℕ) (s₀ : State) (out₀ : List ℕ) (s : State) (t out : List ℕ) (end : ℕ) : Type 0 where
-  pub offset : s.offset + length t ≡ s₀.offset + length part
-  pub calls : s.calls + length t ≤ s₀.calls + length part
+-- WHAT HOLDS WHERE A TURN IS TO COME, of a run over `part` that began with the counts k₀ and the tables T₀ and stands at k and T, before the rest t
+pub record Stands (part : List ℕ) (k₀ : Counts) (T₀ : Tables) (out₀ : List ℕ) (k : Counts) (T : Tables) (t out : List ℕ) (end : ℕ) : Type 0 where
+  pub offset : k.offset + length t ≡ k₀.offset + length part
+  pub calls : k.calls + length t ≤ k₀.calls + length part
   pub small : end ≤ greatest
-  pub going : Going (fed (length part) s₀ part) out₀ 0 (fed (length t) s t) out end
+  pub same : T ≡ with_lent T₀ (lent_in T)
+  pub lengths : SameLengths T₀ T
+  pub going : Going (fed (length part) (state_of k₀ (lent_in T₀)) part) out₀ 0 (fed (length t) (state_of k (lent_in T)) t) out end
+
+abbrev pub counts_after : Counts → ℕ → ℕ → Counts
+counts_after k used lent = record { calls = k.calls + 1; offset = k.offset + used; records = lent }
 
 -- the code matches a turn's answer
 pub taken_as : {u : Turned} {t : Tables} {out : List ℕ} {at : ℕ} {r q : Turn} {t' : Tables} {out' : List ℕ}
     → r ≡ q → Taken u t out at r t' out' → Taken u t out at q t' out'
-taken_as e k = record { turn = sym e ∙ k.turn; tables = k.tables; text = k.text }
+taken_as e k = record { turn = sym e ∙ k.turn; tables = k.tables; text = k.text; lengths = k.lengths }
 
 -- a turn of one kind is none of another
 abbrev turn_kind : Turn → ℕ
@@ -93,29 +101,35 @@ other_turn : {A : Type 0} (r q : Turn) → r ≡ q → (turn_kind r ≡ turn_kin
 other_turn r q e h = absurd (h (ap turn_kind e))
 
 -- A TURN THAT SAID A LINE, and where the run then stands
-pub record Onward (part : List ℕ) (s₀ : State) (out₀ : List ℕ) (s : State) (t : List ℕ) (end : ℕ) (t' : Tables) (out' : List ℕ)
+pub record Onward (part : List ℕ) (k₀ : Counts) (T₀ : Tables) (out₀ : List ℕ) (k : Counts) (t : List ℕ) (end : ℕ) (T' : Tables) (out' : List ℕ)
     (used len lent : ℕ) : Type 0 where
   pub least : 2 ≤ used
   pub within : used ≤ length t
-  pub stands : Stands part s₀ out₀ (further s used lent t') (drop used t) out' (capped end len)
+  pub stands : Stands part k₀ T₀ out₀ (counts_after k used lent) T' (drop used t) out' (capped end len)
 
 -- as the code has it: the rest is cut off, and the sum stops
-pub next_turn : {part : List ℕ} {s₀ : State} {out₀ : List ℕ} {s : State} {t : List ℕ} {end : ℕ} {t' : Tables} {out' : List ℕ}
-    {used len lent : ℕ} (n end' : ℕ) → Onward part s₀ out₀ s t end t' out' used len lent → length t - used ≤ n → end' ≡ min (end + len) greatest
-    → Stands part s₀ out₀ (further s used lent t') (take n (drop used t)) out' end'
+pub next_turn : {part : List ℕ} {k₀ : Counts} {T₀ : Tables} {out₀ : List ℕ} {k : Counts} {t : List ℕ} {end : ℕ} {T' : Tables} {out' : List ℕ}
+    {used len lent : ℕ} (n end' : ℕ) → Onward part k₀ T₀ out₀ k t end T' out' used len lent → length t - used ≤ n → end' ≡ min (end + len) greatest
+    → Stands part k₀ T₀ out₀ (counts_after k used lent) T' (take n (drop used t)) out' end'
 next_turn {t} {end} {used} {len} n end' o h e =
     rw (take_all n (drop used t) (omega (arith, length-drop used t)), e ∙ saturated end len) o.stands
 
-module _ (part : List ℕ) (s₀ : State) (out₀ : List ℕ) (s : State) (t out : List ℕ) (end : ℕ) (t' : Tables) (out' : List ℕ)
-    (short : length out₀ < greatest) (g : Stands part s₀ out₀ s t out end) where
-  pub said : (used len lent : ℕ) → Taken (turn_from s t) s.tables out end (Said used len lent) t' out' → Onward part s₀ out₀ s t end t' out' used len lent
+module _ (part : List ℕ) (k₀ : Counts) (T₀ : Tables) (out₀ : List ℕ) (k : Counts) (T : Tables) (t out : List ℕ) (end : ℕ) (T' : Tables) (out' : List ℕ)
+    (short : length out₀ < greatest) (g : Stands part k₀ T₀ out₀ k T t out end) where
+  abbrev s₀ : State
+  s₀ = state_of k₀ (lent_in T₀)
+
+  abbrev s : State
+  s = state_of k (lent_in T)
+
+  pub said : (used len lent : ℕ) → Taken (turn_from s t) T out end (Said used len lent) T' out' → Onward part k₀ T₀ out₀ k t end T' out' used len lent
   said used len lent = go (turn_from s t) refl
     where
-      go : (u : Turned) → turn_from s t ≡ u → Taken u s.tables out end (Said used len lent) t' out' → Onward part s₀ out₀ s t end t' out' used len lent
-      go waits e k = other_turn _ _ k.turn (λ z. omega arith)
-      go (stops x) e k = other_turn _ _ k.turn (λ z. omega arith)
-      go (says x u records t'') e k =
-          let q = k.turn in
+      go : (u : Turned) → turn_from s t ≡ u → Taken u T out end (Said used len lent) T' out' → Onward part k₀ T₀ out₀ k t end T' out' used len lent
+      go waits e p = other_turn _ _ p.turn (λ z. omega arith)
+      go (stops x) e p = other_turn _ _ p.turn (λ z. omega arith)
+      go (says x u records t'') e p =
+          let q = p.turn in
           let eu : used ≡ u = cc in
           let el : len ≡ length x = cc in
           let er : lent ≡ records = cc in
@@ -130,52 +144,55 @@ module _ (part : List ℕ) (s₀ : State) (out₀ : List ℕ) (s : State) (t out
             least = omega (arith, d.least);
             within = omega (arith, d.within);
             stands =
-                rw (er, k.tables, el, eu, k.text)
+                rw (er, p.tables, el, eu, p.text)
                 record {
                   offset = omega (arith, g.offset, n, d.within);
                   calls = omega (arith, g.calls, n, d.least, d.within);
                   small = capped_greatest end (length x);
+                  same = ap (λ (y : Tables). with_lent y t'') g.same;
+                  lengths = rw p.tables at (long_on g.lengths p.lengths);
                   going = going_on (fed (length part) s₀ part) out₀ 0 x (fed (length (drop u t)) next (drop u t)) out end short g';
                 };
           }
 
   -- A RUN THAT ENDS
-  ran : (x : List ℕ) (b : Bool) (q : ℕ) → fed (length t) s t ≡ ended x s t b → t' ≡ s.tables → out' ≡ put_in out end x → q ≡ capped end (length x)
-      → Ran (fed (length part) s₀ part) out₀ (record { waiting = length t; counts = counts_in s; end = q; stopped = b }) t' out'
-  ran x b q e same eo eq =
+  ran : (x : List ℕ) (b : Bool) (q : ℕ) → fed (length t) s t ≡ ended x s t b → T' ≡ T → SameLengths T T' → out' ≡ put_in out end x → q ≡ capped end (length x)
+      → Ran (fed (length part) s₀ part) T₀ out₀ (record { waiting = length t; counts = counts_in s; end = q; stopped = b }) T' out'
+  ran x b q e same long eo eq =
       let d : Going (fed (length part) s₀ part) out₀ 0 (ended x s t b) out end = rw e at g.going in
       record {
         answer_is = rw (← d.left, ← d.state, ← d.stopped, eq ∙ d.size);
-        tables_are = same ∙ ap (λ (z : State). z.tables) d.state;
+        tables_are = same ∙ g.same ∙ ap (λ (z : State). with_lent T₀ z.tables) d.state;
+        lengths = long_on g.lengths long;
         lines =
             record {
               end = eq ∙ d.size;
               text = λ i.
-                  let k : end + length x ≡ 0 + length (fed (length part) s₀ part).text = place_of_lem end _ 0 _ d.size (omega arith) in
+                  let p : end + length x ≡ 0 + length (fed (length part) s₀ part).text = place_of_lem end _ 0 _ d.size (omega arith) in
                   let r : length out ≡ length out₀ = d.as_long in
                   eo ∙ sym (put-fits out end x (omega arith)) ∙ d.text (omega arith);
             };
       }
 
-  pub ran_waits : Taken (turn_from s t) s.tables out end Wait t' out'
-      → Ran (fed (length part) s₀ part) out₀ (record { waiting = length t; counts = counts_in s; end = end; stopped = false }) t' out'
+  pub ran_waits : Taken (turn_from s t) T out end Wait T' out'
+      → Ran (fed (length part) s₀ part) T₀ out₀ (record { waiting = length t; counts = counts_in s; end = end; stopped = false }) T' out'
   ran_waits = go (turn_from s t) refl
     where
-      go : (u : Turned) → turn_from s t ≡ u → Taken u s.tables out end Wait t' out'
-          → Ran (fed (length part) s₀ part) out₀ (record { waiting = length t; counts = counts_in s; end = end; stopped = false }) t' out'
-      go waits e k = ran [] false end (fed_waits (length t) s t e) k.tables k.text (sym (capped_small end 0 (omega (arith, g.small)) ∙ add-zero end))
-      go (stops x) e k = other_turn _ _ k.turn (λ z. omega arith)
-      go (says x u records t'') e k = other_turn _ _ k.turn (λ z. omega arith)
+      go : (u : Turned) → turn_from s t ≡ u → Taken u T out end Wait T' out'
+          → Ran (fed (length part) s₀ part) T₀ out₀ (record { waiting = length t; counts = counts_in s; end = end; stopped = false }) T' out'
+      go waits e p = ran [] false end (fed_waits (length t) s t e) p.tables p.lengths p.text (sym (capped_small end 0 (omega (arith, g.small)) ∙ add-zero end))
+      go (stops x) e p = other_turn _ _ p.turn (λ z. omega arith)
+      go (says x u records t'') e p = other_turn _ _ p.turn (λ z. omega arith)
 
-  pub ran_stops : (len q : ℕ) → Taken (turn_from s t) s.tables out end (Stop len) t' out' → q ≡ capped end len
-      → Ran (fed (length part) s₀ part) out₀ (record { waiting = length t; counts = counts_in s; end = q; stopped = true }) t' out'
+  pub ran_stops : (len q : ℕ) → Taken (turn_from s t) T out end (Stop len) T' out' → q ≡ capped end len
+      → Ran (fed (length part) s₀ part) T₀ out₀ (record { waiting = length t; counts = counts_in s; end = q; stopped = true }) T' out'
   ran_stops len q = go (turn_from s t) refl
     where
-      go : (u : Turned) → turn_from s t ≡ u → Taken u s.tables out end (Stop len) t' out' → q ≡ capped end len
-          → Ran (fed (length part) s₀ part) out₀ (record { waiting = length t; counts = counts_in s; end = q; stopped = true }) t' out'
-      go waits e k eq = other_turn _ _ k.turn (λ z. omega arith)
-      go (stops x) e k eq =
-          let tt = k.turn in
+      go : (u : Turned) → turn_from s t ≡ u → Taken u T out end (Stop len) T' out' → q ≡ capped end len
+          → Ran (fed (length part) s₀ part) T₀ out₀ (record { waiting = length t; counts = counts_in s; end = q; stopped = true }) T' out'
+      go waits e p eq = other_turn _ _ p.turn (λ z. omega arith)
+      go (stops x) e p eq =
+          let tt = p.turn in
           let el : len ≡ length x = cc in
-          ran x true q (fed_stops (length t) s t x e (le_refl _)) k.tables k.text (eq ∙ ap (λ (m : ℕ). capped end m) el)
-      go (says x u records t'') e k eq = other_turn _ _ k.turn (λ z. omega arith)
+          ran x true q (fed_stops (length t) s t x e (le_refl _)) p.tables p.lengths p.text (eq ∙ ap (λ (m : ℕ). capped end m) el)
+      go (says x u records t'') e p eq = other_turn _ _ p.turn (λ z. omega arith)

@@ -4,7 +4,7 @@ use Rattle.std.proofs.Common.{drop, get_or, length-append, eq-eqb, ne_eqb, le-le
 use Rattle.std.proofs.lemmas.List.Edits.{sets}
 use Rattle.text.specs.Text.{greatest, bytes, last_line, put_in, Appended}
 use Rattle.text.specs.Puts.{sets_at, put-fits}
-use Rattle.rules.specs.Tables.{Tables}
+use Rattle.turns.specs.declared.Tables.{Tables}
 use Rattle.turns.specs.Faults.{no_version, cut_short, stop_line}
 use Rattle.tape.specs.declared.Intake.{Intake}
 use Rattle.tape.specs.Lines.{Fed, fed, end_line, last_of, version, first_offset, opening, call_lines, lines_of}
@@ -40,8 +40,8 @@ end_lines : (part : List ℕ) → (ran part).stopped ≡ false
 unfolding call_lines last_of
 end_lines part e = rw e
 
-module _ (part out₀ : List ℕ) (r : Intake) (t : Tables) (buffer : List ℕ) (short : length out₀ < greatest)
-    (d : Ran (ran part) out₀ r t buffer) where
+module _ (part out₀ : List ℕ) (r : Intake) {t t' : Tables} (buffer : List ℕ) (short : length out₀ < greatest)
+    (d : Ran (ran part) t out₀ r t' buffer) where
   pub calls_stopped : r.stopped ≡ true → LinesIn (call_lines part) out₀ r.end buffer
   calls_stopped e =
       let k : call_lines part ≡ (ran part).text = stop_lines part (sym (ap (λ (x : Intake). x.stopped) d.answer_is) ∙ e) in

@@ -2,13 +2,15 @@
 use Rattle.std.specs.Prelude.{ℕ, ◌+◌, ◌≤◌, ◌<◌, ◌≡◌, cond, List, leb, length}
 use Rattle.std.proofs.lemmas.List.Edits.{sets}
 use Rattle.text.specs.Text.{greatest}
-use Rattle.rules.specs.Tables.{Tables}
+use Rattle.rules.specs.Tables as rule
+use Rattle.turns.specs.declared.Tables.{Tables}
+use Rattle.turns.specs.Lent.{with_lent, SameLengths}
 use Rattle.tape.specs.declared.Intake.{Intake}
 use Rattle.tape.specs.declared.Counts.{Counts}
 use Rattle.tape.specs.Lines.{State, Fed}
 
 -- the program's state, of its counts and its tables
-abbrev pub state_of : Counts → Tables → State
+abbrev pub state_of : Counts → rule.Tables → State
 state_of k t = record { calls = k.calls; offset = k.offset; records = k.records; tables = t }
 
 abbrev pub counts_in : State → Counts
@@ -29,7 +31,8 @@ pub record LinesIn (xs out : List ℕ) (r : ℕ) (out' : List ℕ) : Type 0 wher
   pub text : length xs ≤ length out → out' ≡ sets out 0 xs
 
 -- what a run over a part leaves: what `fed` says
-pub record Ran (f : Fed) (out : List ℕ) (r : Intake) (t' : Tables) (out' : List ℕ) : Type 0 where
+pub record Ran (f : Fed) (t : Tables) (out : List ℕ) (r : Intake) (t' : Tables) (out' : List ℕ) : Type 0 where
   pub answer_is : r ≡ record { waiting = length f.left; counts = counts_in f.state; end = capped 0 (length f.text); stopped = f.stopped }
-  pub tables_are : t' ≡ f.state.tables
+  pub tables_are : t' ≡ with_lent t f.state.tables
+  pub lengths : SameLengths t t'
   pub lines : LinesIn f.text out r.end out'

@@ -4,8 +4,10 @@ use Rattle.std.proofs.Common.{sym, ◌∙◌}
 use Rattle.text.specs.Text.{greatest, put_in}
 use Rattle.rules.specs.Tests.{one_of}
 use Rattle.rules.specs.Layout.{most_records}
-use Rattle.rules.specs.Tables.{Tables}
+use Rattle.rules.specs.Tables as rule
 use Rattle.frames.specs.Decode.{longest}
+use Rattle.turns.specs.declared.Tables.{Tables}
+use Rattle.turns.specs.Lent.{lent_in, with_lent, SameLengths}
 use Rattle.turns.specs.Turns.{line_room, last_room}
 use Rattle.tape.specs.declared.Intake.{Intake}
 use Rattle.tape.specs.declared.Counts.{Counts}
@@ -97,21 +99,22 @@ Leaves-one a b = (
 )
 
 -- whether the part is unfit, of the buffers and the tables themselves
-abbrev pub unfit_for : List ℕ → ℕ → ℕ → Counts → Tables → List ℕ → Bool
+abbrev pub unfit_for : List ℕ → ℕ → ℕ → Counts → rule.Tables → List ℕ → Bool
 unfit_for buffer from to k t out = unfit (length buffer) from to k (length t.values) (length t.words) (length out)
 
 pub record Absorbed (buffer : List ℕ) (from to : ℕ) (k : Counts) (t : Tables) (out : List ℕ)
     (r : Intake) (buffer' : List ℕ) (t' : Tables) (out' : List ℕ) : Type 0 where
-  pub done : unfit_for buffer from to k t out ≡ false →
-      let f : Fed = fed (length (part buffer from to)) (state_of k t) (part buffer from to) in
-      Leaves (intake_of f) (at_front f.left buffer) f.state.tables (at_front f.text out) r buffer' t' out'
-  pub refused : unfit_for buffer from to k t out ≡ true → Leaves (halted k) buffer t out r buffer' t' out'
+  pub done : unfit_for buffer from to k (lent_in t) out ≡ false →
+      let f : Fed = fed (length (part buffer from to)) (state_of k (lent_in t)) (part buffer from to) in
+      Leaves (intake_of f) (at_front f.left buffer) (with_lent t f.state.tables) (at_front f.text out) r buffer' t' out'
+  pub refused : unfit_for buffer from to k (lent_in t) out ≡ true → Leaves (halted k) buffer t out r buffer' t' out'
   pub short : r.stopped ≡ false → r.waiting < longest
+  pub lengths : SameLengths t t'
 
 pub Absorbed-one : {buffer : List ℕ} {from to : ℕ} {k : Counts} {t : Tables} {out : List ℕ} {r q : Intake} {b₁ b₂ : List ℕ} {t₁ t₂ : Tables} {o₁ o₂ : List ℕ}
     → Absorbed buffer from to k t out r b₁ t₁ o₁ → Absorbed buffer from to k t out q b₂ t₂ o₂ → (r ≡ q) × (b₁ ≡ b₂) × (t₁ ≡ t₂) × (o₁ ≡ o₂)
-Absorbed-one {buffer} {from} {to} {k} {t} {out} {r} {q} {b₁} {b₂} {t₁} {t₂} {o₁} {o₂} a b = go (unfit_for buffer from to k t out) refl
+Absorbed-one {buffer} {from} {to} {k} {t} {out} {r} {q} {b₁} {b₂} {t₁} {t₂} {o₁} {o₂} a b = go (unfit_for buffer from to k (lent_in t) out) refl
   where
-    go : (bad : Bool) → unfit_for buffer from to k t out ≡ bad → (r ≡ q) × (b₁ ≡ b₂) × (t₁ ≡ t₂) × (o₁ ≡ o₂)
+    go : (bad : Bool) → unfit_for buffer from to k (lent_in t) out ≡ bad → (r ≡ q) × (b₁ ≡ b₂) × (t₁ ≡ t₂) × (o₁ ≡ o₂)
     go true e = Leaves-one (a.refused e) (b.refused e)
     go false e = Leaves-one (a.done e) (b.done e)

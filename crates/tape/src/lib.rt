@@ -3,13 +3,13 @@
 
 ghost use Rattle.std.specs.Prelude.{◌≡◌, ◌+◌, ◌≤◌, ◌<◌, length};
 ghost use Rattle.text.specs.Text.{greatest};
-ghost use Rattle.rules.specs.Lent.{lent, left_tables};
+ghost use Rattle.turns.specs.Lent.{lent_in};
 ghost use Rattle.tape.specs.Lines.{fed, end_line, call_lines, lines_of};
 ghost use Rattle.tape.specs.Inner.{state_of, Counted, Ran, LinesIn};
 ghost use Rattle.tape.specs.Promises.{Written, Closed, Unfit, Absorbed};
 
 use seats::layout::{MOST_RECORDS, SEATS_LENGTH};
-use turns::{Fault, LAST_ROOM, LINE_ROOM, Turn, take_turn};
+use turns::{Fault, LAST_ROOM, LINE_ROOM, Tables, Turn, take_turn};
 
 // What is kept from call to call beside the tables: the calls so far, the offset of the next, and the records that Setup gave.
 #[derive(Clone, Copy, Debug, PartialEq, Eq)]
@@ -67,24 +67,15 @@ pub const OPENING: Counts = Counts {
 pub const FAR_OFF: u64 = 1 << 62;
 
 // Takes every whole call of a part of a tape, and puts the lines into out.
-// The tables are lent apart, here and above: who takes a struct of references has to promise of each that the same one is left, and is no plainer.
-fn feed(
-    part: &[u8],
-    mut k: Counts,
-    values: &mut [u64],
-    words: &mut [u64],
-    seats: &mut [u64],
-    out: &mut [u8],
-) -> Intake
+fn feed(part: &[u8], mut k: Counts, tables: &mut Tables<'_>, out: &mut [u8]) -> Intake
     requires { Counted k (length part.now) }
-    ensures { Ran (fed (length part.now) (state_of k (lent values.old words.old seats.old)) part.now) out.old
-        result (left_tables values.new words.new seats.new) out.new }
+    ensures { Ran (fed (length part.now) (state_of k (lent_in tables.old)) part.now) tables.old out.old result tables.new out.new }
 {
     let mut rest = part;
     let mut end = 0;
     let stopped = loop {
         let n = k.calls + 1;
-        match take_turn(rest, n, k.offset, k.records, values, words, seats, out, end) {
+        match take_turn(rest, n, k.offset, k.records, tables, out, end) {
             Turn::Wait => break false,
             Turn::Stop { len } => {
                 end = end.saturating_add(len);
@@ -128,7 +119,12 @@ fn calls(part: &[u8], out: &mut [u8]) -> usize
     let mut values = [0; RECORDS];
     let mut words = [0; RECORDS];
     let mut seats = [0; SEATS];
-    let r = feed(part, OPENING, &mut values, &mut words, &mut seats, out);
+    let mut tables = Tables {
+        values: &mut values,
+        words: &mut words,
+        seats: &mut seats,
+    };
+    let r = feed(part, OPENING, &mut tables, out);
     if r.stopped {
         return r.end;
     }
@@ -189,15 +185,20 @@ pub fn absorb(
     from: usize,
     to: usize,
     k: Counts,
-    values: &mut [u64],
-    words: &mut [u64],
-    seats: &mut [u64],
+    tables: &mut Tables<'_>,
     out: &mut [u8],
 ) -> Intake
-    ensures { Absorbed buf.old from to k (lent values.old words.old seats.old) out.old
-        result buf.new (left_tables values.new words.new seats.new) out.new }
+    ensures { Absorbed buf.old from to k tables.old out.old result buf.new tables.new out.new }
 {
-    if is_unfit(buf.len(), from, to, k, values.len(), words.len(), out.len()) {
+    if is_unfit(
+        buf.len(),
+        from,
+        to,
+        k,
+        tables.values.len(),
+        tables.words.len(),
+        out.len(),
+    ) {
         return Intake {
             waiting: 0,
             counts: k,
@@ -205,7 +206,7 @@ pub fn absorb(
             stopped: true,
         };
     }
-    let r = feed(&buf[from..to], k, values, words, seats, out);
+    let r = feed(&buf[from..to], k, tables, out);
     buf.copy_within(to - r.waiting..to, 0);
     r
 }

@@ -1,7 +1,7 @@
 -- What callers may rest on: what a turn takes of the tape, how long its line is, and how many records it lends. Assumes nothing.
 use Rattle.std.specs.Prelude.{ℕ, zero, suc, ◌+◌, ◌-◌, ◌*◌, ◌/◌, ◌≤◌, ◌<◌, ◌≡◌, refl, Bool, true, false, cond, ltb, leb, eqb}
 use Rattle.std.specs.Prelude.{List, [], ◌++◌, length, take, drop, get_or, Result, Ok, Err}
-use Rattle.std.proofs.Common.{arith, ap, subst, length-append, lt-ltb, le-ltb}
+use Rattle.std.proofs.Common.{arith, ◌∙◌, ap, subst, length-append, lt-ltb, le-ltb}
 use Rattle.std.proofs.lemmas.List.{length-drop, length-take-le}
 use Rattle.std.proofs.lemmas.Bool.{eqb-true, leb-true, leb-false, ltb-true, ltb-false}
 use Rattle.text.specs.Text.{width_of, width_in, decimal, bytes, put_in}
@@ -22,6 +22,8 @@ use Rattle.frames.specs.declared.Frame.{Frame}
 use Rattle.frames.specs.declared.Frame.TheVariants.{Nothing, Short, Body}
 use Rattle.frames.specs.Decode.{be16, length_size, frame_of, setup_size, open_size, read_size, write_size, seat_size, by_kind, decoded, plan_from}
 use Rattle.frames.specs.Decode.{setup_kind, open_kind, read_kind, write_kind, advance_kind, abandon_kind}
+use Rattle.turns.specs.declared.Tables.{Tables as Lent}
+use Rattle.turns.specs.Lent.{SameLengths}
 use Rattle.turns.specs.Faults.{misfit, unknown_kind, stop_line}
 use Rattle.turns.specs.Calls.{PlanFits, on_first, performed, records_after, setup_again, wrong_sizes}
 use Rattle.turns.specs.Turns.{line_room, last_room, Turned, waits, stops, says, call_turn, body_turn, frame_turn, turn_of}
@@ -173,3 +175,15 @@ turn_nothing n offset records t = refl
 pub put-nothing : (l : List ℕ) (at : ℕ) → l ≡ put_in l at []
 unfolding put_in
 put-nothing l at = cond_ind (λ (m : List ℕ). l ≡ m) (leb (at + 0) (length l)) (λ _. refl) (λ _. refl)
+
+-- tables that stay keep their lengths, and they keep them over two turns
+pub stay_long : {t : Lent} → SameLengths t t
+stay_long = record { values_are = refl; words_are = refl; seats_are = refl }
+
+pub long_on : {a b c : Lent} → SameLengths a b → SameLengths b c → SameLengths a c
+long_on p q =
+    record {
+      values_are = q.values_are ∙ p.values_are;
+      words_are = q.words_are ∙ p.words_are;
+      seats_are = q.seats_are ∙ p.seats_are;
+    }

@@ -4,8 +4,8 @@
 ghost use Rattle.std.specs.Prelude.{◌≡◌, length, take, drop};
 ghost use Rattle.text.specs.Text.{Appended};
 ghost use Rattle.rules.specs.Layout.{plan_width};
-ghost use Rattle.rules.specs.Lent.{lent, left, left_tables};
 ghost use Rattle.frames.specs.Decode.{decoded, plan_from, setup_size};
+ghost use Rattle.turns.specs.Lent.{lent_in, Answered};
 ghost use Rattle.turns.specs.Faults.{fault_of, fault_for, stop_line};
 ghost use Rattle.turns.specs.Calls.{PlanFits, FirstOf, performed, records_after};
 ghost use Rattle.turns.specs.Turns.{line_of, call_turn, body_turn, turn_of};
@@ -50,6 +50,14 @@ pub enum Turn {
     Stop {
         len: usize,
     },
+}
+
+// The tables that a tape is played on, as they are lent. Who is lent the struct leaves the same references in it (`with_lent`).
+#[derive(Drop)]
+pub struct Tables<'a> {
+    pub values: &'a mut [u64],
+    pub words: &'a mut [u64],
+    pub seats: &'a mut [u64],
 }
 
 // Where a call stands: its number, the offset of its length, and the records that are lent.
@@ -104,17 +112,9 @@ fn first_of(n: u64, len: usize) -> usize
 
 // Setup, as the tape allows it: once, and of at most 1024 records.
 #[tactic(auto, using(crate::specs::Laws::setup_again_lem, crate::specs::Laws::setup_many))]
-fn set_up(
-    count: u64,
-    start: u64,
-    b: &[u8],
-    records: u64,
-    values: &[u64],
-    words: &mut [u64],
-    seats: &mut [u64],
-) -> Answer
+fn set_up(count: u64, start: u64, b: &[u8], records: u64, tables: &mut Tables<'_>) -> Answer
     requires { length b.now ≡ setup_size }
-    ensures { left result values.now words.new seats.new ≡ performed records (lent values.now words.old seats.old) (Call.Setup count start) b.now }
+    ensures { Answered (performed records (lent_in tables.old) (Call.Setup count start) b.now) tables.old result tables.new }
 {
     if 0 < records {
         return Answer::from(Refusal::SetupAgain);
@@ -123,44 +123,36 @@ fn set_up(
         return Answer::from(Refusal::WrongSizes);
     }
     let plan = plan_of(b);
-    let n = first_of(count, values.len());
-    let m = first_of(count, words.len());
-    plan::setup(&values[..n], &mut words[..m], seats, start, &plan)
+    let n = first_of(count, tables.values.len());
+    let m = first_of(count, tables.words.len());
+    let values = &mut tables.values[..n];
+    let words = &mut tables.words[..m];
+    let seats = &mut *tables.seats;
+    plan::setup(values, words, seats, start, &plan)
 }
 
-// One call on the program's tables, of which it is lent what Setup gave. They are three slices, here and below, and no struct of `&mut`s:
-// that was tried, and the proof did not close. Nothing is known of a field's elements once it was lent on to be read alone.
-fn perform(
-    c: Call,
-    b: &[u8],
-    records: u64,
-    values: &mut [u64],
-    words: &mut [u64],
-    seats: &mut [u64],
-) -> Answer
+// One call on the program's tables, of which it is lent what Setup gave.
+fn perform(c: Call, b: &[u8], records: u64, tables: &mut Tables<'_>) -> Answer
     requires { PlanFits c b.now }
-    ensures { left result values.new words.new seats.new ≡ performed records (lent values.old words.old seats.old) c b.now }
+    ensures { Answered (performed records (lent_in tables.old) c b.now) tables.old result tables.new }
 {
-    let n = first_of(records, values.len());
-    let m = first_of(records, words.len());
+    let n = first_of(records, tables.values.len());
+    let m = first_of(records, tables.words.len());
+    let values = &mut tables.values[..n];
+    let words = &mut tables.words[..m];
+    let seats = &mut *tables.seats;
     match c {
-        Call::Setup { count, start } => set_up(count, start, b, records, values, words, seats),
-        Call::Open(owner) => plan::open(&values[..n], &words[..m], seats, owner),
-        Call::Read { owner, seat, item } => {
-            work::read(&values[..n], &words[..m], seats, owner, seat, item)
-        }
+        Call::Setup { count, start } => set_up(count, start, b, records, tables),
+        Call::Open(owner) => plan::open(values, words, seats, owner),
+        Call::Read { owner, seat, item } => work::read(values, words, seats, owner, seat, item),
         Call::Write {
             owner,
             seat,
             item,
             value,
-        } => work::write(&values[..n], &words[..m], seats, owner, seat, item, value),
-        Call::Advance { owner, seat } => {
-            commit::advance(&mut values[..n], &mut words[..m], seats, owner, seat)
-        }
-        Call::Abandon { owner, seat } => {
-            commit::abandon(&values[..n], &mut words[..m], seats, owner, seat)
-        }
+        } => work::write(values, words, seats, owner, seat, item, value),
+        Call::Advance { owner, seat } => commit::advance(values, words, seats, owner, seat),
+        Call::Abandon { owner, seat } => commit::abandon(values, words, seats, owner, seat),
     }
 }
 
@@ -179,17 +171,15 @@ fn call_turn(
     c: Call,
     b: &[u8],
     place: Place,
-    values: &mut [u64],
-    words: &mut [u64],
-    seats: &mut [u64],
+    tables: &mut Tables<'_>,
     out: &mut [u8],
     at: usize,
 ) -> Turn
     requires { PlanFits c b.now }
-    ensures { Taken (call_turn place.n place.records (lent values.old words.old seats.old) b.now c) (lent values.old words.old seats.old) out.old at
-        result (left_tables values.new words.new seats.new) out.new }
+    ensures { Taken (call_turn place.n place.records (lent_in tables.old) b.now c) tables.old out.old at
+        result tables.new out.new }
 {
-    let a = perform(c, b, place.records, values, words, seats);
+    let a = perform(c, b, place.records, tables);
     Turn::Said {
         taken: LENGTH + b.len(),
         len: say(out, at, place.n, a),
@@ -198,20 +188,12 @@ fn call_turn(
 }
 
 // Takes the turn of a body: a call, or a fault that stops the tape.
-fn body_turn(
-    b: &[u8],
-    place: Place,
-    values: &mut [u64],
-    words: &mut [u64],
-    seats: &mut [u64],
-    out: &mut [u8],
-    at: usize,
-) -> Turn
-    ensures { Taken (body_turn place.n place.offset place.records (lent values.old words.old seats.old) b.now (decoded b.now))
-        (lent values.old words.old seats.old) out.old at result (left_tables values.new words.new seats.new) out.new }
+fn body_turn(b: &[u8], place: Place, tables: &mut Tables<'_>, out: &mut [u8], at: usize) -> Turn
+    ensures { Taken (body_turn place.n place.offset place.records (lent_in tables.old) b.now (decoded b.now))
+        tables.old out.old at result tables.new out.new }
 {
     match decode(b) {
-        Ok(c) => call_turn(c, b, place, values, words, seats, out, at),
+        Ok(c) => call_turn(c, b, place, tables, out, at),
         Err(bad) => Turn::Stop {
             len: stop(out, at, Fault::from(bad), place.offset),
         },
@@ -224,26 +206,16 @@ pub fn take_turn(
     n: u64,
     offset: u64,
     records: u64,
-    values: &mut [u64],
-    words: &mut [u64],
-    seats: &mut [u64],
+    tables: &mut Tables<'_>,
     out: &mut [u8],
     at: usize,
 ) -> Turn
-    ensures { Taken (turn_of n offset records (lent values.old words.old seats.old) rest.now) (lent values.old words.old seats.old) out.old at
-        result (left_tables values.new words.new seats.new) out.new }
+    ensures { Taken (turn_of n offset records (lent_in tables.old) rest.now) tables.old out.old at
+        result tables.new out.new }
 {
     let Frame::Body(k) = split(rest) else {
         return Turn::Wait;
     };
     let place = Place { n, offset, records };
-    body_turn(
-        &rest[LENGTH..LENGTH + k],
-        place,
-        values,
-        words,
-        seats,
-        out,
-        at,
-    )
+    body_turn(&rest[LENGTH..LENGTH + k], place, tables, out, at)
 }

@@ -1,6 +1,6 @@
 -- `tape::absorb` meets its contract. Assumes nothing.
 use Rattle.std.proofs.Common.{List, ℕ, ◌-◌, ◌≤◌, arith, rules, le_refl, ◌≡◌, sym, ◌∙◌, false, true≢false, length, drop, length-drop, length-take-le}
-use Rattle.rules.specs.Tables.{Tables, tables}
+use Rattle.turns.specs.Lent.{lent_in}
 use Rattle.tape.specs.Inner.{state_of}
 use Rattle.tape.specs.Lines.{State, Fed, fed}
 use Rattle.tape.specs.Runs.{grown, left_is_end}
@@ -10,14 +10,11 @@ use Rattle.tape.proofs.Shifted.{left_fits, took, waits_few}
 use Rattle.tape.proofs.absorb.Goals as goal
 use Rattle.tape.proofs.absorb.Goals.{After-feed-r, Else-is_unfit}
 
-abbrev found : Else-is_unfit → Tables
-found c = let a = c.args in tables a.values.now a.words.now a.seats.now
-
-not-unfit : (c : Else-is_unfit) → let a = c.args in unfit_for a.buf.now a.from a.to a.k (found c) a.out.now ≡ false
+not-unfit : (c : Else-is_unfit) → let a = c.args in unfit_for a.buf.now a.from a.to a.k (lent_in a.tables.now) a.out.now ≡ false
 not-unfit c = sym c.is_unfit.ensures ∙ c.if-is_unfit.false
 
 fitting : (c : Else-is_unfit) → let a = c.args in
-    Fit (length a.buf.now) a.from a.to a.k (length a.values.now) (length a.words.now) (length a.out.now)
+    Fit (length a.buf.now) a.from a.to a.k (length a.tables.now.values.now) (length a.tables.now.words.now) (length a.out.now)
 fitting c = fit (not-unfit c)
 
 part_length : (c : Else-is_unfit) → let a = c.args in length (part a.buf.now a.from a.to) ≡ a.to - a.from
@@ -44,7 +41,7 @@ feed-r-requires c =
 
 -- what the run is of, and what waits is the end of it
 abbrev state_at : After-feed-r → State
-state_at c = let a = c.args in state_of a.k (tables a.values.now a.words.now a.seats.now)
+state_at c = let a = c.args in state_of a.k (lent_in a.tables.now)
 
 abbrev part_at : After-feed-r → List ℕ
 part_at c = let a = c.args in part a.buf.now a.from a.to
@@ -56,10 +53,11 @@ ends : (c : After-feed-r) → let f = fed_at c in f.left ≡ drop (length (part_
 ends c = left_is_end (length (part_at c)) (state_at c) (part_at c) (le_refl _)
 
 waits_within : (c : After-feed-r) → let a = c.args in
-    Fit (length a.buf.now) a.from a.to a.k (length a.values.now) (length a.words.now) (length a.out.now) → c.feed-r.result.waiting ≤ a.to - a.from
+    Fit (length a.buf.now) a.from a.to a.k (length a.tables.now.values.now) (length a.tables.now.words.now) (length a.out.now)
+    → c.feed-r.result.waiting ≤ a.to - a.from
 waits_within c g =
     let a = c.args in
-    left_fits a.buf.now a.out.now a.from a.to (fed_at c) c.feed-r.result _ _ c.feed-r.ensures (ends c) g.behind g.inside
+    left_fits a.buf.now a.tables.now a.out.now a.from a.to (fed_at c) c.feed-r.result _ _ c.feed-r.ensures (ends c) g.behind g.inside
 
 pub overflow_sub-to : goal.overflow_sub-to
 overflow_sub-to c =
@@ -81,10 +79,12 @@ returns c =
     let n = le_refl (length (part_at k)) in
     record {
       done = λ _.
-          took a.buf.now a.out.now a.from a.to (fed_at k) c.feed-r.result _ _ c.feed-r.ensures (ends k) g.behind g.inside _ c.copy_within.ensures.after
+          took a.buf.now a.tables.now a.out.now a.from a.to (fed_at k) c.feed-r.result _ _ c.feed-r.ensures (ends k) g.behind g.inside _
+          c.copy_within.ensures.after
           (omega (arith, text_room _ (state_at k) (part_at k) n, part_length fine, g.roomy)) (omega (arith, c.well_formed));
       refused = λ e. absurd (true≢false (sym e ∙ not-unfit fine));
+      lengths = c.feed-r.ensures.lengths;
       short =
-          waits_few a.buf.now a.out.now a.from a.to (fed_at k) c.feed-r.result _ _ c.feed-r.ensures (ends k) g.behind g.inside (λ i. search rules)
+          waits_few a.buf.now a.tables.now a.out.now a.from a.to (fed_at k) c.feed-r.result _ _ c.feed-r.ensures (ends k) g.behind g.inside (λ i. search rules)
           (grown _ (state_at k) (part_at k) n).wanting;
     }

@@ -1,23 +1,10 @@
 -- `tape::feed` meets its contract: whenever the loop's test is reached, the rest of the part leads to what the whole leads to. Assumes nothing.
 use Rattle.std.proofs.Common.{arith, ℕ, ◌≡◌, ◌<◌, length, length-drop, ◌∙◌}
-use Rattle.rules.specs.Tables.{Tables, tables}
 use Rattle.turns.specs.declared.Turn.TheVariants.{Said}
-use Rattle.tape.specs.Lines.{State}
 use Rattle.text.specs.Text.{greatest}
-use Rattle.tape.specs.Inner.{state_of}
 use Rattle.tape.proofs.Running.{saturated, taken_as, Onward, said, next_turn, ran_waits, ran_stops}
 use Rattle.tape.proofs.feed.Goals as goal
 use Rattle.tape.proofs.feed.Goals.{After-take_turn}
-
--- A TURN: where the run began, where it stands, and the tables that the turn left
-abbrev began : After-take_turn → State
-began k = let a = k.args in state_of a.k (tables a.values.now a.words.now a.seats.now)
-
-abbrev here : After-take_turn → State
-here k = let L = k.loop-len in state_of L.k (tables L.values L.words L.seats)
-
-abbrev tables_after : After-take_turn → Tables
-tables_after k = let l = k.take_turn.new in tables l.values l.words l.seats
 
 short : (k : After-take_turn) → length k.args.out.now < greatest
 short k = omega (arith, k.well_formed)
@@ -26,22 +13,22 @@ short k = omega (arith, k.well_formed)
 pub returns-in-Wait : goal.returns-in-Wait
 returns-in-Wait c =
     let k = (goal.at.returns-in-Wait c).After-take_turn in
-    ran_waits _ (began k) _ (here k) _ _ _ _ _ (short k) c.loop-len.invariant (taken_as {t' = tables_after k} c.in-Wait.is k.take_turn.ensures)
+    ran_waits _ _ _ _ _ _ _ _ _ _ _ (short k) c.loop-len.invariant (taken_as c.in-Wait.is k.take_turn.ensures)
 
 -- the tape is stopped
 pub returns-in-Stop : goal.returns-in-Stop
 returns-in-Stop c =
     let k = (goal.at.returns-in-Stop c).After-take_turn in
-    ran_stops _ (began k) _ (here k) _ _ _ _ _ (short k) c.loop-len.invariant c.in-Stop.len c.saturating_add-end.result
-    (taken_as {t' = tables_after k} c.in-Stop.is k.take_turn.ensures) (c.saturating_add-end.ensures ∙ saturated _ _)
+    ran_stops _ _ _ _ _ _ _ _ _ _ _ (short k) c.loop-len.invariant c.in-Stop.len c.saturating_add-end.result
+    (taken_as c.in-Stop.is k.take_turn.ensures) (c.saturating_add-end.ensures ∙ saturated _ _)
 
 -- a line was said
 onward : (k : After-take_turn) (used len lent : ℕ) → k.take_turn.result ≡ Said used len lent →
     let L = k.loop-len in
     let a = k.args in
-    Onward a.part.now (began k) a.out.now (here k) L.rest.now L.end (tables_after k) k.take_turn.new.out used len lent
+    Onward a.part.now a.k a.tables.now a.out.now L.k L.rest.now L.end k.take_turn.new.tables k.take_turn.new.out used len lent
 onward k used len lent e =
-    said _ (began k) _ (here k) _ _ _ _ _ (short k) k.loop-len.invariant used len lent (taken_as {t' = tables_after k} e k.take_turn.ensures)
+    said _ _ _ _ _ _ _ _ _ _ _ (short k) k.loop-len.invariant used len lent (taken_as e k.take_turn.ensures)
 
 pub slice_bounds-rest-count : goal.slice_bounds-rest-count
 slice_bounds-rest-count c =
