@@ -7,10 +7,6 @@ use Rattle.rules.specs.declared.Answer.{Answer}
 abbrev pub Lent : Type 0
 Lent = List ℕ
 
--- all three, as what a call requires names them
-abbrev pub lent_now : Lent → Lent → Lent → Tables
-lent_now values words seats = tables values words seats
-
 -- all three, as the call found them; as it left them; and its answer with what it left
 abbrev pub lent : Lent → Lent → Lent → Tables
 lent values words seats = tables values words seats

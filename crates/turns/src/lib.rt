@@ -75,16 +75,17 @@ pub const LAST_ROOM: usize = 40;
 
 const PLAN: usize = PLAN_WIDTH as usize;
 
-// The last line of a bad tape: its fault, and an offset. A function for the fault's words would have the same four cases, and is no plainer.
+// The last line of a bad tape: its fault, and an offset.
 pub fn stop(out: &mut [u8], at: usize, fault: Fault, offset: u64) -> usize
     ensures { Appended out.old at (stop_line (fault_of fault) offset) result out.new }
 {
-    match fault {
-        Fault::NoVersion => text::last(out, at, b"stopped 31", offset),
-        Fault::CutShort => text::last(out, at, b"stopped 32", offset),
-        Fault::Misfit => text::last(out, at, b"stopped 33", offset),
-        Fault::Unknown => text::last(out, at, b"stopped 34", offset),
-    }
+    let word: &[u8] = match fault {
+        Fault::NoVersion => b"stopped 31",
+        Fault::CutShort => b"stopped 32",
+        Fault::Misfit => b"stopped 33",
+        Fault::Unknown => b"stopped 34",
+    };
+    text::last(out, at, word, offset)
 }
 
 // One line for an answer.
