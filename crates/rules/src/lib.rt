@@ -9,7 +9,8 @@ ghost use Rattle.rules.specs.Numbers.{refusal_number, abort_number};
 use clock::Unfit;
 
 // What a caller is told: one case for each word of the document, with its number.
-// A refusal and an abort carry the document's number here, not their name: its form is 'Aborted or Refused with its number', and `every_refusal` of reach is said of any.
+// A refusal and an abort carry the document's number here, not their name: its form is 'Aborted or Refused with its number',
+// and `every_refusal` of reach is said of any number.
 #[derive(Clone, Copy, Debug, PartialEq, Eq)]
 pub enum Answer {
     Ready(u64),
