@@ -1,6 +1,6 @@
 -- The pass over the rows: what it holds after one seat more, and at its end; and what Open's tests have from it.
 use Rattle.std.proofs.Common.{ltb, ℕ, zero, suc, ◌+◌, ◌*◌, max, ◌<◌, ◌≤◌, ◌≡◌, refl, sym, ap, ◌∙◌, ◌≢◌, Bool, true, false, cond, ◌||◌, List, map, sum, Option}
-use Rattle.std.proofs.Common.{Some, None, unwrap_or, arith, add-one, eq-eqb, ne_eqb, eqb-true, eqb, length, get_or, set, replicate}
+use Rattle.std.proofs.Common.{Some, None, is_some, unwrap_or, arith, add-one, eq-eqb, ne_eqb, eqb-true, eqb, length, get_or, set, replicate}
 use Rattle.std.proofs.Common.{length-set, get_or-set_same, get_or-set_other}
 use Rattle.std.proofs.lemmas.Bool.{eqb-false, lt-leb}
 use Rattle.std.specs.Option.{option_or}
@@ -87,10 +87,15 @@ module _ (seats : List ℕ) (i : ℕ) where
 
 -- THE END OF THE PASS
 pub census_sound : (seats counts : List ℕ) (i : ℕ) (free : Option ℕ) → Passed (bad_row seats) seat_count i → Counts seats counts i → Lowest seats i free →
-    seat_count ≤ i → Sound seats counts (unwrap_or free seat_count)
+    seat_count ≤ i → Sound seats counts free
 census_sound seats counts i free p h f l =
     let e : i ≡ seat_count = omega arith in
     record { rows_good = none_passes _ _ _ p l; counts_are = rw (sym e) h; free_is = lowest_end seats i free f l }
+
+-- a free seat is found where the lowest one is a seat
+pub is_found : (free : Option ℕ) → unwrap_or free seat_count < seat_count → is_some free ≡ true
+is_found None l = absurd (omega arith)
+is_found (Some s) l = refl
 
 -- WHAT OPEN'S TESTS HAVE FROM IT
 module _ (seats : List ℕ) {counts : List ℕ} (h : Counts seats counts seat_count) where
@@ -114,7 +119,7 @@ module _ (seats : List ℕ) {counts : List ℕ} (h : Counts seats counts seat_co
   claim_small o e l = omega (arith, held_small seats seat_count h o, held_is o l, share_small seats o e l)
 
 -- U can be summed up: all seats are counted, and no share is above 64
-pub planned : {seats counts : List ℕ} {free : ℕ} → Sound seats counts free → bad_plan seats ≡ false → Planned seats counts
+pub planned : {seats counts : List ℕ} {free : Option ℕ} → Sound seats counts free → bad_plan seats ≡ false → Planned seats counts
 planned s good = record { counts_are = s.counts_are; plan_good = good }
 
 -- U, as the code sums it up

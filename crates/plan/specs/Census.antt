@@ -1,5 +1,5 @@
 -- One pass over the rows counts the seats that each owner holds, and finds a bad row or the lowest free seat. The tests of Open rest on it.
-use Rattle.std.specs.Prelude.{ℕ, ◌<◌, ◌≡◌, false, List, length, get_or, Option, Some, None}
+use Rattle.std.specs.Prelude.{ℕ, ◌<◌, ◌≡◌, false, List, length, get_or, Option, Some, None, unwrap_or}
 use Rattle.rules.specs.Tests.{any, count}
 use Rattle.rules.specs.Layout.{owners, seat_count, row, phase, owner, share, limit}
 use Rattle.rules.specs.Plan.{bad_plan, bad_row, holds, held, claims, is_free, free_seat}
@@ -22,10 +22,10 @@ Lowest seats n None = Passed (is_free seats) seat_count n
 Lowest seats n (Some free) = free ≡ free_seat seats
 
 -- AFTER IT: no row is bad, all seats are counted, and the lowest free one is found
-pub record Sound (seats counts : List ℕ) (free : ℕ) : Type 0 where
+pub record Sound (seats counts : List ℕ) (free : Option ℕ) : Type 0 where
   pub rows_good : any (bad_row seats) seat_count ≡ false
   pub counts_are : Counts seats counts seat_count
-  pub free_is : free ≡ free_seat seats
+  pub free_is : unwrap_or free seat_count ≡ free_seat seats
 
 -- U can be summed up: all seats are counted, and no share is above 64
 pub record Planned (seats counts : List ℕ) : Type 0 where

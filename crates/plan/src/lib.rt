@@ -133,8 +133,7 @@ fn check_owner(share: u64, limit: u64, mine: u64, claims: u64) -> Result<(), Ref
 struct Census<'a> {
     seats: &'a [u64],
     held: [u64; OWNERS as usize],
-    // 64 where none is free, as `free_seat` of the rules has it; then Open is refused.
-    free: u64,
+    free: Option<u64>,
     ghost sound: { Sound seats.now held free },
 }
 
@@ -156,7 +155,6 @@ impl<'a> Census<'a> {
             count(&mut held, phase, owner);
             free = lowest(free, i, phase);
         }
-        let free = free.unwrap_or(SEATS);
         Ok(Census { seats, held, free })
     }
 
@@ -213,7 +211,8 @@ fn try_open(values: &[u64], words: &[u64], seats: &mut [u64], owner: u64) -> Res
     }
     let census = Census::take(seats)?;
     census.check(owner)?;
-    let free = census.free;
+    // An Open that is not refused finds a seat.
+    let free = census.free.unwrap();
     open_row(seats, free, owner);
     Ok(Answer::Seat(free))
 }

@@ -1,13 +1,15 @@
 -- `plan::try_open` meets its contract. Assumes nothing.
-use Rattle.std.proofs.Common.{◌≡◌, ap, ◌∙◌, sym, le-leb}
+use Rattle.std.proofs.Common.{◌≡◌, ℕ, Option, unwrap_or, ap, ◌∙◌, sym, le-leb}
 use Rattle.std.proofs.lemmas.Result.{err_from_is_err_and}
 use Rattle.rules.specs.Numbers.{refused_for, not_zero}
+use Rattle.rules.specs.Layout.{seat_count}
 use Rattle.rules.specs.Tables.{tables}
 use Rattle.rules.specs.Plan.{open_refusal, open_seat, free_seat}
 use Rattle.rows.specs.Fine.{sized_of}
-use Rattle.plan.proofs.Counted.{by-plan, row_refused}
+use Rattle.rows.specs.FreeSeat.{seat_found}
+use Rattle.plan.proofs.Counted.{is_found, by-plan, row_refused}
 use Rattle.plan.proofs.try_open.Goals as goal
-use Rattle.plan.proofs.try_open.Goals.{After-check}
+use Rattle.plan.proofs.try_open.Goals.{After-check, In_ok-check}
 
 pub returns-then-is_unsized : goal.returns-then-is_unsized
 unfolding open_seat open_refusal
@@ -48,10 +50,20 @@ returns-in_err-check c =
     let p = err_from_is_err_and c.from_residual-in_err-check.result c.from_residual-in_err-check.ensures.1 in
     rw (p.1, p.2) (simp (due, c.in_err-check.was, not_zero))
 
--- or it does not
+-- or it does not, and finds a seat
+free_is : (c : In_ok-check) → unwrap_or c.in_ok-census.census.free seat_count ≡ free_seat c.args.seats.now
+free_is c = c.in_ok-census.census.sound.free_is ∙ ap free_seat c.in_ok-census.ensures.ok
+
+pub unwrap-free-requires : goal.unwrap-free-requires
+unwrap-free-requires c =
+    let found = tables c.args.values.now c.args.words.now c.args.seats.now in
+    let due = refusal_is (goal.at.unwrap-free-requires c).After-check ∙ ap refused_for c.in_ok-check.was in
+    let free = free_is (goal.at.unwrap-free-requires c).In_ok-check in
+    is_found _ (rw free (seat_found found c.args.owner due))
+
 pub returns : goal.returns
 unfolding open_seat
 returns c =
     let due = refusal_is (goal.at.returns c).After-check in
-    let free = c.in_ok-census.census.sound.free_is ∙ ap free_seat c.in_ok-census.ensures.ok in
+    let free = ap (λ (r : Option ℕ). unwrap_or r seat_count) (sym c.unwrap-free.ensures) ∙ free_is (goal.at.returns c).In_ok-check in
     simp (due, c.in_ok-check.was, c.open_row.ensures, ← free)

@@ -49,4 +49,4 @@ loop-i-preserved c =
 pub invariant_of-result : goal.invariant_of-result
 invariant_of-result c =
     let all = c.loop-i.invariant in
-    record { sound = rw c.unwrap_or-free.ensures (census_sound _ _ _ _ all.0 all.1 all.2 (omega arith)) }
+    record { sound = census_sound _ _ _ _ all.0 all.1 all.2 (omega arith) }
