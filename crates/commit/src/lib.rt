@@ -297,6 +297,7 @@ impl Step<'_> {
         requires { HasHead self.old }
         ensures { TakesAll advance_in values.old self.old result values.new self.new }
     {
+        // A match on the phase number, with a range for damaged phases: document 01's form.
         match self.head.phase {
             WORKING | LOCKING => self.lock_phase(),
             CHECKING => self.check_phase(),
@@ -306,7 +307,7 @@ impl Step<'_> {
     }
 }
 
-// ADVANCE: one step of a commit.
+// ADVANCE: one step of a commit. It begins as `abandon` does, and is no function with it: one is lent the values to be changed and the other to be read.
 pub fn advance(
     values: &mut [u64],
     words: &mut [u64],

@@ -82,6 +82,7 @@ fn open_tape(f: Flow, buf: &mut [u8], to: usize, tables: &mut Tables<'_>, out: &
             ..f
         };
     }
+    // By an index: the buffer is lent to be changed, and the calls stand at a place in it.
     if buf[0] == VERSION {
         return take_calls(f.counts, buf, CALLS_FROM, to, tables, out);
     }

@@ -135,6 +135,7 @@ pub fn decode(b: &[u8]) -> Result<Call, BadCall>
 fn call_of(kind: Kind, b: &[u8]) -> Result<Call, BadCall>
     ensures { result ≡ call_of kind b.now }
 {
+    // The six kinds are closed, and each has its own array pattern: so a match.
     match kind {
         Kind::Setup => setup_call(b),
         Kind::Open => open_call(b),

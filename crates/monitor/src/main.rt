@@ -145,6 +145,7 @@ fn play(
     for _ in 0..TURNS {
         let waiting = f.waiting;
         let to = fetch(rt, buf, waiting)?;
+        // No bytes are the end, as `Read` of the standard library has it.
         if to == waiting {
             let end = close(f, out);
             return put(rt, &out[..end]);

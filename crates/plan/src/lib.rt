@@ -15,7 +15,7 @@ use rules::{Answer, Refusal};
 use seats::layout::*;
 use seats::{at, free_row, give, is_unsized, store};
 
-// A plan that Setup would refuse. `plan` is Setup's own, or a seat table, which begins with one.
+// A plan that Setup would refuse. `plan` is Setup's own, or a seat table, which begins with one. One pass: the sum is taken while the shares are read.
 fn is_bad_plan(plan: &[u64]) -> bool
     ensures { result ≡ bad_plan plan.now }
 {
@@ -32,6 +32,7 @@ fn is_bad_plan(plan: &[u64]) -> bool
 }
 
 // SETUP
+// A `for` and no copy: `laid` is said of a table of any length.
 fn lay(seats: &mut [u64], plan: &[u64])
     ensures { seats.new ≡ laid seats.old plan.now plan_width }
 {
@@ -77,6 +78,7 @@ pub fn setup(
 }
 
 // OPEN
+// A row's phase and owner are two numbers, here and below: the clauses are over any table that has such a row, and a struct would name the same two.
 fn is_bad_row(phase: u64, owner: u64) -> bool
     ensures { (seats : List ℕ) (s : ℕ) → RowOf seats s phase owner → result ≡ bad_row seats s }
 {

@@ -74,6 +74,7 @@ impl From<Refusal> for Answer {
     ghost from_gives = { λ why a. a ≡ Refused (refusal_number why) };
 
     fn from(why: Refusal) -> Self {
+        // `as`: an enum's number has no `From`.
         Answer::Refused(why as u64)
     }
 }

@@ -11,7 +11,7 @@ pub const MOST_READS: u64 = 16;
 
 pub const MOST_WRITES: u64 = 8;
 
-// The seat table: shares, limits, then the rows.
+// The seat table: shares, limits, then the rows. Numbers beside each other: document 01's layout, which C lends.
 pub const LIMITS_FROM: u64 = OWNERS;
 
 pub const PLAN_WIDTH: u64 = LIMITS_FROM + OWNERS;

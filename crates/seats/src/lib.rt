@@ -205,6 +205,7 @@ impl Head {
     fn is_misplaced(self) -> bool
         ensures { result ≡ misplaced self.phase self.position self.reads self.writes }
     {
+        // A match on the phase number: document 01's form.
         match self.phase {
             WORKING => self.position != 0,
             LOCKING => self.position == 0 || self.writes < self.position,

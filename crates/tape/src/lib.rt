@@ -12,6 +12,7 @@ use seats::layout::{MOST_RECORDS, SEATS_LENGTH};
 use turns::{Fault, LAST_ROOM, LINE_ROOM, Tables, Turn, take_turn};
 
 // What is kept from call to call beside the tables: the calls so far, the offset of the next, and the records that Setup gave.
+// 0 records before a Setup, and no option: `performed`, `records_after` and `Taken` say so.
 #[derive(Clone, Copy, Debug, PartialEq, Eq)]
 pub struct Counts {
     pub calls: u64,
@@ -100,7 +101,7 @@ fn feed(part: &[u8], mut k: Counts, tables: &mut Tables<'_>, out: &mut [u8]) -> 
     }
 }
 
-// The last line of a tape that no call stopped: all of it was read, or a call is cut short.
+// The last line of a tape that no call stopped: all of it was read, or a call is cut short. A flag and both numbers, as `Closed` of `end_line` has them.
 pub fn finish(out: &mut [u8], at: usize, whole: bool, calls: u64, offset: u64) -> usize
     ensures { Closed out.old at (end_line whole calls offset) result out.new }
 {
@@ -155,7 +156,8 @@ pub fn run(tape: &[u8], out: &mut [u8]) -> u64
     u64::MAX
 }
 
-// Whether a buffer's bytes from `from` up to `to` are not to be absorbed.
+// Whether a buffer's bytes from `from` up to `to` are not to be absorbed. Two numbers and no slice, here, in `absorb` and in flow:
+// `unfit` answers for a `to` past the buffer or below `from`.
 #[tactic(auto, unfolding(crate::specs::Promises::unfit, rules::specs::Tests::one_of))]
 pub fn is_unfit(
     buffer: usize,

@@ -13,6 +13,7 @@ pub const MOST_LETTERS: usize = 10;
 pub fn width(n: u64) -> usize
     ensures { WidthIs n result }
 {
+    // `as`: Rust has no `From` of a u32 for usize. A digit, below, is less than ten.
     n.max(1).ilog10() as usize + 1
 }
 
@@ -73,6 +74,7 @@ impl Line<'_> {
     }
 }
 
+// `out` and `at` stay apart, here and above: a place may lie past the end, where a tape is only measured.
 // Appends a line at `at` where it fits whole, else changes nothing: a number in front where there is one, a word's letters, and a number.
 // The result is the line's length either way.
 fn append(out: &mut [u8], at: usize, head: Option<u64>, letters: &[u8], x: u64) -> usize

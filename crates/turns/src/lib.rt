@@ -60,7 +60,7 @@ pub struct Tables<'a> {
     pub seats: &'a mut [u64],
 }
 
-// Where a call stands: its number, the offset of its length, and the records that are lent.
+// Where a call stands: its number, the offset of its length, and the records that are lent. `take_turn` is given the three apart, as `turn_of` names them.
 #[derive(Clone, Copy, Debug, PartialEq, Eq)]
 struct Place {
     n: u64,
@@ -95,7 +95,7 @@ fn say(out: &mut [u8], at: usize, n: u64, a: Answer) -> usize
     text::numbered(out, at, n, answers::spell(a), answers::number_of(a))
 }
 
-// The sixteen shares and sixteen limits of a Setup's body.
+// The sixteen shares and sixteen limits of a Setup's body. Its length is asked for, here and below: `decoded` and `performed` leave the plan in the body.
 fn plan_of(b: &[u8]) -> [u64; PLAN]
     requires { length b.now ≡ setup_size }
     ensures { result ≡ take plan_width (drop plan_from b.now) }
@@ -132,7 +132,8 @@ fn set_up(count: u64, start: u64, b: &[u8], records: u64, tables: &mut Tables<'_
     plan::setup(values, words, seats, start, &plan)
 }
 
-// One call on the program's tables, of which it is lent what Setup gave.
+// One call on the program's tables, of which it is lent what Setup gave. Their first n places are lent in the same lines as in `set_up`:
+// a function that lends parts on has to promise what comes back of each, and is no plainer.
 fn perform(c: Call, b: &[u8], records: u64, tables: &mut Tables<'_>) -> Answer
     requires { PlanFits c b.now }
     ensures { Answered (performed records (lent_in tables.old) c b.now) tables.old result tables.new }

@@ -16,6 +16,7 @@ use seats::layout::*;
 use seats::{Head, ReadEntry, WriteEntry, admit, at, give, read_of, row_of, write_of};
 
 // What an admitted Read or Write notes in: the seat table that it is lent, the seat, and the head of the seat's row as the call finds it.
+// What is known of the head is a clause (`Counted`) and no ghost field: it holds where a call begins, and not after its first store.
 #[derive(Drop)]
 struct Noting<'a> {
     seats: &'a mut [u64],
@@ -116,6 +117,7 @@ impl Noting<'_> {
     }
 
     // The row's numbers from place `from` to place `to` move up by one write entry, the last first.
+    // A `for` and no `copy_within`: `slid` is said of a table of any length, and past its end nothing is stored.
     fn slide(&mut self, from: u64, to: u64)
         requires { RoomAbove from to }
         ensures { Stores (λ l s. slid l s to write_width (to - from)) self.old self.new }
