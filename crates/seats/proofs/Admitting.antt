@@ -1,4 +1,4 @@
--- A call that comes too late for its row, as `admit_to_row` refuses it.
+-- A call that comes too late for its row, as `admit` of `Row` refuses it.
 use Rattle.std.specs.Prelude.{ℕ, ◌<◌, ◌≡◌, List, false, Err}
 use Rattle.std.proofs.Common.{arith, lt-ltb, eq-eqb, ne_eqb}
 use Rattle.rules.specs.Layout.{phase}
