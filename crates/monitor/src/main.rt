@@ -23,14 +23,14 @@ const OUTPUT: usize = LINE_ROOM * INPUT + LAST_ROOM;
 // A proved loop has to end, and nothing says that the input does. So many turns, each of a full input buffer, keep every number below FAR_OFF.
 const TURNS: u64 = (FAR_OFF - 1) / (INPUT as u64);
 
-// How the program is used.
-const USAGE: &str = "\
-usage: monitor < TAPE
-Plays a tape of calls, and prints a line to each: its number, a word, a number.
-The last line is 'end' and the number of calls, or 'stopped', the fault and its byte.
-A text tape is made into a tape by the program tape: tape encode my.txt | monitor
-The stack must have a megabyte.
-";
+// How the program is used. Each line is written by itself: where one can't be written, the others are.
+const USAGE: [&str; 5] = [
+    "usage: monitor < TAPE\n",
+    "Plays a tape of calls, and prints a line to each: its number, a word, a number.\n",
+    "The last line is 'end' and the number of calls, or 'stopped', the fault and its byte.\n",
+    "A text tape is made into a tape by the program tape: tape encode my.txt | monitor\n",
+    "The stack must have a megabyte.\n",
+];
 
 // Why a tape is not played to its end.
 #[derive(Clone, Copy, Debug, PartialEq, Eq)]
@@ -184,7 +184,9 @@ fn play_input(rt: &HostRuntime) -> Result<(), Failure> {
 // There is no argument to take but the one that asks how the program is used.
 fn answer_argument(rt: &HostRuntime, word: &[u8]) -> Result<(), Failure> {
     if word == b"--help".as_slice() {
-        let _ = rt.print(USAGE);
+        for line in USAGE {
+            let _ = rt.print(line);
+        }
         return Ok(());
     }
     Err(Failure::Arguments)
