@@ -3,11 +3,18 @@ use Rattle.std.specs.Prelude.{ℕ, ◌≡◌, Bool, true, false, Result}
 use Rattle.std.proofs.Common.{sym, ◌∙◌}
 use Rattle.clock.specs.declared.Unfit.{Unfit}
 use Rattle.clock.specs.declared.Parts.{Parts}
-use Rattle.clock.specs.Word.{top, is_locked, distance, write_time, read_time, parts_of, with_lock, packed, fresh_at, extended_to}
+use Rattle.clock.specs.Word.{top, is_locked, distance, write_time, read_time, parts_of, with_lock, number, packed, fresh_at, extended_to}
 
 -- two results that equal what the inputs fix
 pub one_result : {A : Type 0} {fixed r q : A} → r ≡ fixed → q ≡ fixed → r ≡ q
 one_result e f = e ∙ sym f
+
+-- the number of a refusal
+abbrev pub NumberIs : Unfit → ℕ → Type 0
+NumberIs why r = r ≡ number why
+
+pub NumberIs-one : (why : Unfit) (r q : ℕ) → NumberIs why r → NumberIs why q → r ≡ q
+NumberIs-one why r q = one_result
 
 -- the greatest time
 abbrev pub TopIs : ℕ → Type 0

@@ -4,12 +4,23 @@
 ghost use Rattle.std.specs.Prelude.{◌≡◌, ◌<◌, ◌≤◌};
 ghost use Rattle.clock.specs.Word.{distance_span, top, word_of, with_lock};
 ghost use Rattle.clock.specs.Promises.{TopIs, LockIs, DistanceIs, WriteTimeIs, ReadTimeIs, PartsAre, PackedIs, LockedIs, UnlockedIs, FreshIs, ExtendedIs};
+ghost use Rattle.clock.specs.Promises.{NumberIs};
 
 // Why there is no such word.
 #[derive(Clone, Copy, Debug, PartialEq, Eq)]
 pub enum Unfit {
     // Refusal 2: the parts or the time are not to be had in a word.
     OutOfRange = 2,
+}
+
+impl Unfit {
+    // The refusal's number.
+    pub fn number(self) -> u64
+        ensures { NumberIs self result }
+    {
+        // `as`: an enum's number has no `From`.
+        self as u64
+    }
 }
 
 // A word read apart.

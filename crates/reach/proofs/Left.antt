@@ -15,8 +15,8 @@ use Rattle.rules.specs.Refusals.{seat_refusal, record_refusal}
 use Rattle.rules.specs.Plan.{setup_refusal, setup, open_refusal, open_seat}
 use Rattle.rules.specs.Work.{read_of, write_of, first_read, read_in, read, write_in, write}
 use Rattle.rules.specs.Advance.{held_locks, let_go, lock_step, commit_time, time_step, judged, passed}
-use Rattle.rules.specs.Advance.{ruled, check_step, seal_step, store_step, passed_to, word_locked}
-use Rattle.rules.specs.Advance.{time_run_out}
+use Rattle.rules.specs.Advance.{ruled, check_step, seal_step, store_step, passed_to}
+use Rattle.rules.specs.Numbers.{word_locked, time_run_out}
 use Rattle.rules.specs.Advance.{done_step, lock_phase, check_phase, store_phase, advance_in, advance, abandon}
 use Rattle.rules.specs.Calls.{Call, Setup, Open, Read, Write, Advance, Abandon, step, history, told}
 use Rattle.rules.specs.declared.Answer.{Answer}

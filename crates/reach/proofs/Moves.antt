@@ -16,8 +16,7 @@ use Rattle.rules.specs.Places.{length-row}
 use Rattle.rules.specs.Tables.{Tables, answered, tables, with_seats, with_words}
 use Rattle.rules.specs.Advance.{moved, lock_step, commit_time, time_step, verdict, check_item, judged}
 use Rattle.rules.specs.Advance.{stretched, passed, ruled, check_step, passed_to}
-use Rattle.rules.specs.Advance.{word_locked}
-use Rattle.rules.specs.Advance.{time_run_out}
+use Rattle.rules.specs.Numbers.{word_locked, time_run_out}
 use Rattle.rules.specs.Advance.{by_word}
 use Rattle.rules.specs.Advance.{seal_step, effect, store_step, done_step, lock_phase, check_phase, store_phase, advance_in}
 use Rattle.rules.specs.declared.Answer.{Answer}

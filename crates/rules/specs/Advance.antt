@@ -7,25 +7,12 @@ use Rattle.rules.specs.Tables.{Tables, Outcome, with_values, with_words, with_se
 use Rattle.rules.specs.Refusals.{seat_refusal}
 use Rattle.rules.specs.Plan.{freed}
 use Rattle.rules.specs.Work.{write_of}
-use Rattle.rules.specs.Numbers.{abort_number}
-use Rattle.rules.specs.declared.Abort.TheVariants.{WordLocked, VersionGone, WordBlocked, TimeRunOut}
+use Rattle.rules.specs.Numbers.{word_locked, time_run_out, abort_number}
+use Rattle.rules.specs.declared.Abort.TheVariants.{VersionGone, WordBlocked}
 use Rattle.rules.specs.declared.Answer.{Answer}
 use Rattle.rules.specs.declared.Answer.TheVariants.{Locked, Timed, Checked, Sealed, Stored, Done, Dropped, Refused, Aborted}
 use Rattle.rules.specs.declared.Verdict.{Verdict}
 use Rattle.rules.specs.declared.Verdict.TheVariants.{Passes, Extends, Fails}
-
--- the numbers of an abort
-abbrev pub word_locked : ℕ
-word_locked = abort_number WordLocked
-
-abbrev pub version_gone : ℕ
-version_gone = abort_number VersionGone
-
-abbrev pub word_blocked : ℕ
-word_blocked = abort_number WordBlocked
-
-abbrev pub time_run_out : ℕ
-time_run_out = abort_number TimeRunOut
 
 -- how many of its write entries a row in phases 1 to 3 holds the locks of: the first `position`, in phase 3 all
 unfoldable pub held_locks : List ℕ → ℕ

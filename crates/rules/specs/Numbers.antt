@@ -26,11 +26,23 @@ refusal_number ItemLocked = 10
 refusal_number BadPlan = 11
 refusal_number SetupAgain = 35
 
+abbrev pub word_locked : ℕ
+word_locked = 21
+
+abbrev pub version_gone : ℕ
+version_gone = 22
+
+abbrev pub word_blocked : ℕ
+word_blocked = 23
+
+abbrev pub time_run_out : ℕ
+time_run_out = 24
+
 abbrev pub abort_number : Abort → ℕ
-abort_number WordLocked = 21
-abort_number VersionGone = 22
-abort_number WordBlocked = 23
-abort_number TimeRunOut = 24
+abort_number WordLocked = word_locked
+abort_number VersionGone = version_gone
+abort_number WordBlocked = word_blocked
+abort_number TimeRunOut = time_run_out
 
 -- what a caller is told by a call that may be refused
 abbrev pub told : Result Answer Refusal → Answer

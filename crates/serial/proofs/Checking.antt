@@ -14,8 +14,7 @@ use Rattle.rules.specs.Layout.{position_at, row, put, phase, position, reads, wr
 use Rattle.rules.specs.Tables.{Tables, tables}
 use Rattle.rules.specs.Work.{write_names, write_of}
 use Rattle.rules.specs.Advance.{moved, check_item, verdict, judged, stretched, passed, ruled, check_step, seal_step, check_phase, is_own, by_word, is_blocked}
-use Rattle.rules.specs.Advance.{word_blocked}
-use Rattle.rules.specs.Advance.{version_gone}
+use Rattle.rules.specs.Numbers.{version_gone, word_blocked}
 use Rattle.rules.specs.Advance.{passed_to}
 use Rattle.rules.specs.Calls.{Advance}
 use Rattle.rules.specs.declared.Answer.TheVariants.{Checked, Sealed}

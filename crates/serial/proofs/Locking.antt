@@ -12,7 +12,8 @@ use Rattle.clock.specs.Word.{top, is_locked, with_lock}
 use Rattle.clock.proofs.Laws.{write≤read}
 use Rattle.rules.specs.Layout.{time_at, row, put, phase, position, reads, writes, write_item}
 use Rattle.rules.specs.Tables.{Tables, tables}
-use Rattle.rules.specs.Advance.{moved, commit_time, lock_step, time_step, lock_phase, word_locked, time_run_out}
+use Rattle.rules.specs.Advance.{moved, commit_time, lock_step, time_step, lock_phase}
+use Rattle.rules.specs.Numbers.{word_locked, time_run_out}
 use Rattle.rules.specs.Calls.{Advance}
 use Rattle.rules.specs.declared.Answer.TheVariants.{Locked, Timed}
 use Rattle.rows.specs.Fine.{cond_ind, write_item_lem, position_low, Fine, fine-row}
