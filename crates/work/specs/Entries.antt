@@ -1,8 +1,8 @@
 -- What a step asks of its seat's row: the numbers of its entries, and room for one more; and what it then comes to.
 use Rattle.std.specs.Prelude.{ℕ, ◌+◌, ◌<◌, ◌≤◌, ◌≡◌, cond, ltb, List, Option, Some, None}
 use Rattle.rules.specs.Layout.{most_reads, most_writes, write_width, row_width, row, reads, writes, read_value, write_value}
-use Rattle.rules.specs.Lent.{Lent}
-use Rattle.rules.specs.Tables.{Tables, Outcome, answered}
+use Rattle.rules.specs.Lent.{lent_seats, left_seats}
+use Rattle.rules.specs.Tables.{Tables, Outcome}
 use Rattle.rules.specs.Work.{read_of, write_of}
 use Rattle.rules.specs.declared.Answer.{Answer}
 use Rattle.work.specs.declared.Noting.{Noting}
@@ -49,7 +49,7 @@ noted g item =
 abbrev pub Stores : (List ℕ → ℕ → List ℕ) → Noting → Noting → Type 0
 Stores f s s' = s' ≡ with_lent_seats s (f s.seats.now s.seat)
 
--- what a step answers and leaves is what a rule says, and it leaves it in the seats that it was lent
-pub record Notes (rule : Tables → ℕ → Outcome) (around : Lent → Tables) (s : Noting) (r : Answer) (s' : Noting) : Type 0 where
+-- what a step answers and leaves is what a rule says, and it leaves it in the seats that it was lent: t has the tables that it is not lent
+pub record Notes (rule : Tables → ℕ → Outcome) (t : Tables) (s : Noting) (r : Answer) (s' : Noting) : Type 0 where
   pub same_seats : s'.seats.ghost_name ≡ s.seats.ghost_name
-  pub outcome : answered r (around s'.seats.now) ≡ rule (around s.seats.now) s.seat
+  pub outcome : left_seats t r s'.seats.now ≡ rule (lent_seats t s.seats.now) s.seat

@@ -78,7 +78,7 @@ impl Noting<'_> {
     // A read of a record that the row does not name yet.
     fn first_read(&mut self, values: &[u64], words: &[u64], item: u64) -> Result<Answer, Refusal>
         requires { Counted self.old }
-        ensures { Notes (λ t s. first_read t s item) (lent values.now words.now) self.old (told result) self.new }
+        ensures { Notes (λ t s. first_read t s item) (lent values.now words.now self.old.seats.now) self.old (told result) self.new }
     {
         if MOST_READS <= self.head.reads {
             return Err(Refusal::ReadsFull);
@@ -94,7 +94,7 @@ impl Noting<'_> {
 
     fn read_in(&mut self, values: &[u64], words: &[u64], item: u64) -> Result<Answer, Refusal>
         requires { Counted self.old }
-        ensures { Notes (λ t s. read_in t s item) (lent values.now words.now) self.old (told result) self.new }
+        ensures { Notes (λ t s. read_in t s item) (lent values.now words.now self.old.seats.now) self.old (told result) self.new }
     {
         if let Some(value) = self.noted(item) {
             return Ok(Answer::Value(value));
@@ -144,7 +144,7 @@ impl Noting<'_> {
 
     fn write_in(&mut self, entry: WriteEntry) -> Result<Answer, Refusal>
         requires { Counted self.old }
-        ensures { (t : Tables) → Notes (λ t s. write_in t s entry.item entry.value) (lent t.values t.words) self.old (told result) self.new }
+        ensures { (t : Tables) → Notes (λ t s. write_in t s entry.item entry.value) t self.old (told result) self.new }
     {
         if let Some(w) = self.write_of(entry.item) {
             self.give(WRITE_VALUE + WRITE_WIDTH * w, entry.value);
