@@ -7,6 +7,7 @@ use std::io::{self, Read, Write};
 use std::os::fd::OwnedFd;
 use std::os::unix::net::UnixStream;
 use std::process::{Command, Output, Stdio};
+use std::sync::Once;
 use std::thread;
 use std::time::Duration;
 
@@ -31,12 +32,19 @@ fn build_library() {
     assert!(compiler.status().expect("gcc is there").success());
 }
 
+/// The program behind the library, which is built once for all tests.
+fn interrupted_monitor() -> Command {
+    static BUILT: Once = Once::new();
+    BUILT.call_once(build_library);
+    let mut command = Command::new(monitor());
+    command.env("LD_PRELOAD", LIBRARY).current_dir(FOLDER);
+    command
+}
+
 #[test]
 fn interrupted_calls_are_made_again() {
-    build_library();
     for tape in [vec![], vec![1], ORDINARY.tape(100), ORDINARY.tape(100_000)] {
-        let mut command = Command::new(monitor());
-        command.env("LD_PRELOAD", LIBRARY).current_dir(FOLDER);
+        let mut command = interrupted_monitor();
         command.stdin(Stdio::piped()).stdout(Stdio::piped()).stderr(Stdio::piped());
         let output = output(command, &tape, outside::bytes(&tape));
         assert_second_tells(&tape, &String::from_utf8_lossy(&output.stdout));
@@ -107,6 +115,18 @@ fn answered(arguments: &[&str]) -> (String, String) {
     let Output { stdout, stderr, .. } = output(command, &[0; 100], |_| Ok(()));
     let text = |bytes| String::from_utf8(bytes).expect("lines are text");
     (text(stdout), text(stderr))
+}
+
+/// The library fails the first line of the help for good, as not ready, and the second half of each
+/// other line. What is lost of one takes nothing of the next with it.
+#[test]
+fn a_line_of_the_help_that_is_lost() {
+    let mut command = interrupted_monitor();
+    command.arg("--help").stdin(Stdio::null()).stdout(Stdio::piped()).stderr(Stdio::piped());
+    let told = output(command, &[0; 100], |_| Ok(())).stdout;
+    let told = String::from_utf8(told).expect("lines are text");
+    assert!(told.starts_with("Plays a tape of calls"), "{told}");
+    assert!(told.ends_with("The stack must h"), "{told}");
 }
 
 #[test]
