@@ -130,10 +130,15 @@ impl Step<'_> {
     fn release(&mut self, n: u64)
         ensures { self.new ≡ with_lent_words self.old (released self.old.words.now (row_in self.old) n) }
     {
+        // The row is taken once, for all n entries. Both tables are borrowed anew before it: the proof follows no use of a field while another is lent.
+        let seat = self.seat;
+        let words = &mut *self.words;
+        let seats = &mut *self.seats;
+        let row = row_of(seats, seat);
         for i in 0..n {
-            let item = self.write_entry(i).item;
-            let word = self.word(item);
-            store(self.words, item, clock::unlock(word));
+            let item = WriteEntry::of(row, i).item;
+            let word = at(words, item);
+            store(words, item, clock::unlock(word));
         }
     }
 
