@@ -3,7 +3,7 @@
 
 ghost use Rattle.std.specs.Prelude.{◌≡◌, ◌+◌, ◌*◌, min, ◌≤◌, ◌<◌, eqb, get_or};
 ghost use Rattle.rules.specs.Tests.{any};
-ghost use Rattle.rules.specs.Layout.{row_at};
+ghost use Rattle.rules.specs.Layout.{row_width, read_width, row_at};
 ghost use Rattle.rules.specs.Lent.{lent};
 ghost use Rattle.rules.specs.Refusals.{misnamed, misplaced, late, bad_read, bad_write, bad_head, damaged, row_refusal};
 ghost use Rattle.seats.specs.Heads.{head_of, HeadOf, head_row, admission, numbered};
@@ -89,10 +89,15 @@ pub fn free_row(seats: &mut [u64], seat: u64)
 
 // ITS ENTRIES
 // One of the first entry's numbers, or the same number of the entry i places on: `first` is where it stands, `width` how far on the next one's does.
+// An entry has at least one number, so from i = row.len() on the place is past the row's end; below that it is far from overflow, and is plainly reckoned.
 fn number_of(row: &[u64], first: u64, width: u64, i: u64) -> u64
+    requires { (first < row_width) × (1 ≤ width) × (width ≤ read_width) }
     ensures { result ≡ get_or row.now (first + width * i) 0 }
 {
-    at(row, first.saturating_add(width.saturating_mul(i)))
+    if row.len() as u64 <= i {
+        return 0;
+    }
+    at(row, first + width * i)
 }
 
 // A read entry.
@@ -139,6 +144,7 @@ impl WriteEntry {
 
 // The first of a row's n entries whose number there is the record's.
 fn find(row: &[u64], first: u64, width: u64, n: u64, item: u64) -> Option<u64>
+    requires { (first < row_width) × (1 ≤ width) × (width ≤ read_width) }
     ensures { result ≡ found (λ i. eqb (get_or row.now (first + width * i) 0) item) n }
 {
     (0..n).find(|&i| number_of(row, first, width, i) == item)
