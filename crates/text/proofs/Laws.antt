@@ -1,11 +1,11 @@
 -- Laws of runs of stores and of decimal digits. Assumes nothing.
 use Rattle.std.specs.Prelude.{ℕ, zero, suc, ◌+◌, ◌-◌, ◌*◌, ◌/◌, ◌%◌, ◌^◌, ◌≤◌, ◌<◌, max, ◌≡◌, refl, Option, Some, None}
-use Rattle.std.specs.Prelude.{List, [], ◌∷◌, ◌++◌, length, take, drop, set}
+use Rattle.std.specs.Prelude.{List, [], ◌∷◌, ◌++◌, length, set}
 use Rattle.std.proofs.Common.{arith, ap, sym, ◌∙◌, append_assoc, length-append}
 use Rattle.std.proofs.Math.Nat.{pow-succ'}
-use Rattle.std.proofs.lemmas.List.Edits.{sets, sets-eq}
+use Rattle.std.proofs.lemmas.List.Edits.{sets}
 use Rattle.std.proofs.lemmas.List.{set_comm}
-use Rattle.std.proofs.Math.Seq.{paste, take-length, length-sets}
+use Rattle.std.proofs.Math.Seq.{length-sets}
 use Rattle.text.specs.Text.{width_in, width_of, digits, decimal, line, last_line}
 use Rattle.text.specs.Puts.{sets_append, sets_at, length_digits, length-decimal, width_done, width_next}
 use Rattle.text.specs.Inner.{number_of, head_of, headed, Put}
@@ -24,10 +24,6 @@ digits_last l at i n =
     sym (sets-set l at (digits i (n / 10)) (at + i) (48 + n % 10) (omega (arith, length_digits i (n / 10))))
     ∙ ap (λ (k : ℕ). set (sets l at (digits i (n / 10))) (at + k) (48 + n % 10)) (sym (length_digits i (n / 10)))
     ∙ sym (sets_append l at (digits i (n / 10)) ((48 + n % 10) ∷ []))
-
--- a run of bytes put over a part as long
-pub pasted : (l : List ℕ) (at : ℕ) (s : List ℕ) → at + length s ≤ length l → paste l at s (length s) ≡ sets l at s
-pasted l at s h = ap (λ (m : List ℕ). take at l ++ m ++ drop (at + length s) l) (take-length s) ∙ sym (sets-eq s l at h)
 
 -- a power of ten is positive
 pow-pos : (k : ℕ) → 1 ≤ 10 ^ k

@@ -35,15 +35,16 @@ struct Line<'a> {
 }
 
 impl Line<'_> {
-    // Puts the bytes of s.
+    // Puts the bytes of s. A `for` and no `copy_from_slice`: in a line that becomes a call of `memmove`, which a host in C need not have.
     fn bytes(&mut self, s: &[u8])
         requires { self.old.at + length s.now ≤ length self.old.out.now }
         ensures text { Put self.old.out.now self.old.at s.now self.new.at self.new.out.now }
         ensures same_buffer { self.new.out.ghost_name ≡ self.old.out.ghost_name }
     {
-        let end = self.at + s.len();
-        self.out[self.at..end].copy_from_slice(s);
-        self.at = end;
+        for &b in s {
+            self.out[self.at] = b;
+            self.at += 1;
+        }
     }
 
     // Puts a number in decimal. No `write!`: it needs a `fmt::Write` for the line and an answer to errors that do not occur, and is no plainer.

@@ -1,11 +1,10 @@
 -- `Line::bytes` meets its contract. Assumes nothing.
-use Rattle.std.proofs.Common.{arith, refl, ◌∙◌}
-use Rattle.std.proofs.lemmas.Slice.{put_mid-paste}
-use Rattle.text.proofs.Laws.{pasted, put_as}
+use Rattle.std.proofs.Common.{refl}
+use Rattle.std.proofs.lemmas.List.{take_more}
+use Rattle.text.proofs.Laws.{put_as, put_both}
 use Rattle.text.proofs.Line.bytes.Goals as goal
 
-pub returns-clause-text : goal.returns-clause-text
-returns-clause-text c =
-    let s = c.args.s.now in
-    let line = c.args.self.now in
-    put_as refl (put_mid-paste _ _ _ _ s _ c.copy_from_slice.ensures.after (omega arith) refl ∙ pasted line.out.now line.at s c.requires)
+pub loop-b-preserved : goal.loop-b-preserved
+loop-b-preserved c =
+    let so = c.loop-b.invariant in
+    (so.0, rw (take_more c.args.s.now c.loop-b.b-index 0 c.loop-b-test.true) (put_both so.1 (put_as refl refl)))
