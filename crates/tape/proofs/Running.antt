@@ -14,7 +14,7 @@ use Rattle.turns.specs.declared.Turn.TheVariants.{Wait, Said, Stop}
 use Rattle.turns.specs.Turns.{Turned, waits, stops, says}
 use Rattle.turns.specs.Lent.{lent_in, with_lent, SameLengths}
 use Rattle.turns.specs.Promises.{Taken}
-use Rattle.turns.specs.Laws.{long_on}
+use Rattle.turns.specs.Laws.{put-nothing, stay_long, long_on}
 use Rattle.tape.specs.declared.Counts.{Counts}
 use Rattle.tape.specs.Lines.{State, turn_from, further, Fed, ended, behind, fed}
 use Rattle.tape.specs.Inner.{state_of, counts_in, capped, Ran}
@@ -173,6 +173,12 @@ module _ (part : List ℕ) (k₀ : Counts) (T₀ : Tables) (out₀ : List ℕ) (
                   eo ∙ sym (put-fits out end x (omega arith)) ∙ d.text (omega arith);
             };
       }
+
+  pub ran_all : length t ≡ 0 → T' ≡ T → out' ≡ out
+      → Ran (fed (length part) s₀ part) T₀ out₀ (record { waiting = length t; counts = counts_in s; end = end; stopped = false }) T' out'
+  unfolding fed
+  ran_all z i j =
+      ran [] false end (rw z) i (rw i stay_long) (j ∙ put-nothing out end) (sym (capped_small end 0 (omega (arith, g.small)) ∙ add-zero end))
 
   pub ran_waits : Taken (turn_from s t) T out end Wait T' out'
       → Ran (fed (length part) s₀ part) T₀ out₀ (record { waiting = length t; counts = counts_in s; end = end; stopped = false }) T' out'

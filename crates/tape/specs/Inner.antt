@@ -1,5 +1,5 @@
 -- What the code's inner functions ask for and leave: of a run over a part of a tape, and of the lines of the whole.
-use Rattle.std.specs.Prelude.{ℕ, ◌+◌, ◌≤◌, ◌<◌, ◌≡◌, cond, List, leb, length}
+use Rattle.std.specs.Prelude.{ℕ, ◌+◌, ◌≤◌, ◌≡◌, cond, List, leb, length}
 use Rattle.std.proofs.lemmas.List.Edits.{sets}
 use Rattle.text.specs.Text.{greatest}
 use Rattle.rules.specs.Tables as rule
@@ -23,7 +23,7 @@ capped a b = cond (leb (a + b) greatest) (a + b) greatest
 -- a part of n bytes leaves every number below the greatest
 pub record Counted (k : Counts) (n : ℕ) : Type 0 where
   pub offset : k.offset + n ≤ greatest
-  pub calls : k.calls + n < greatest
+  pub calls : k.calls + n ≤ greatest
 
 -- lines: where their text would end, and the text where it fits whole
 pub record LinesIn (xs out : List ℕ) (r : ℕ) (out' : List ℕ) : Type 0 where

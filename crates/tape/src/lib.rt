@@ -75,6 +75,10 @@ fn feed(part: &[u8], mut k: Counts, tables: &mut Tables<'_>, out: &mut [u8]) -> 
     let mut rest = part;
     let mut end = 0;
     let stopped = loop {
+        // A call is numbered only where a byte is left: behind the last call there may be no number more.
+        if rest.is_empty() {
+            break false;
+        }
         let n = k.calls + 1;
         match take_turn(rest, n, k.offset, k.records, tables, out, end) {
             Turn::Wait => break false,
