@@ -20,7 +20,9 @@ ghost use Rattle.commit.specs.Promises.{AdvanceAnswered, AbandonAnswered};
 
 use rules::{Abort, Answer, Refusal, Verdict};
 use seats::layout::*;
-use seats::{Head, ReadEntry, WriteEntry, admit, at, free_row, give, row_of, store, write_of};
+use seats::{
+    Head, ReadEntry, WriteEntry, admit, at, free_row, give, greater, row_of, store, write_of,
+};
 
 // How many of its write entries a row in phases 1 to 3 holds the locks of.
 fn held_locks(head: Head) -> u64
@@ -38,7 +40,7 @@ fn seen_time(row: &[u64], n: u64) -> u64
 {
     (0..n)
         .map(|i| ReadEntry::of(row, i).kept_write)
-        .fold(0, u64::max)
+        .fold(0, greater)
 }
 
 // The greatest of `from` and one more than the present read time of each of the first n records to be written.
@@ -47,7 +49,7 @@ fn due_time(words: &[u64], row: &[u64], from: u64, n: u64) -> u64
 {
     (0..n)
         .map(|i| clock::read_time(at(words, WriteEntry::of(row, i).item)) + 1)
-        .fold(from, u64::max)
+        .fold(from, greater)
 }
 
 // Another transaction's lock, with a read time not above the time. `locked` and `read` are the word's.

@@ -13,7 +13,7 @@ ghost use Rattle.plan.specs.Promises.{SetupAnswered, OpenAnswered};
 
 use rules::{Answer, Refusal};
 use seats::layout::*;
-use seats::{at, free_row, give, is_unsized, store};
+use seats::{at, fill, free_row, give, greater, is_unsized, store};
 
 // A plan that Setup would refuse. `plan` is Setup's own, or a seat table, which begins with one. One pass: the sum is taken while the shares are read.
 fn is_bad_plan(plan: &[u64]) -> bool
@@ -58,8 +58,8 @@ fn try_setup(
         return Err(Refusal::BadPlan);
     }
     let records = words.len() as u64;
-    words.fill(word);
-    seats.fill(0);
+    fill(words, word);
+    fill(seats, 0);
     lay(seats, plan);
     Ok(Answer::Ready(records))
 }
@@ -172,7 +172,7 @@ impl<'a> Census<'a> {
         ensures { result ≡ claims_of self.now.seats.now }
     {
         (0..OWNERS)
-            .map(|o| at(&self.held, o).max(at(self.seats, o)))
+            .map(|o| greater(at(&self.held, o), at(self.seats, o)))
             .sum()
     }
 

@@ -30,13 +30,14 @@ StoredAt list i v left = left ≡ set list i v
 pub StoredAt-one : (list : List ℕ) (i v : ℕ) (l m : List ℕ) → StoredAt list i v l → StoredAt list i v m → l ≡ m
 StoredAt-one list i v l m = one_result
 
--- one number throughout a table, and the greater of two: the library's `fill` and `max` do this, under promises of their own
+-- one number throughout a table
 abbrev pub Filled : List ℕ → ℕ → List ℕ → Type 0
 Filled list v left = left ≡ replicate (length list) v
 
 pub Filled-one : (list : List ℕ) (v : ℕ) (l m : List ℕ) → Filled list v l → Filled list v m → l ≡ m
 Filled-one list v l m = one_result
 
+-- the greater of two
 abbrev pub GreaterIs : ℕ → ℕ → ℕ → Type 0
 GreaterIs a b r = r ≡ max a b
 

@@ -7,9 +7,9 @@ ghost use Rattle.rules.specs.Layout.{row_width, read_width, row_at};
 ghost use Rattle.rules.specs.Lent.{lent};
 ghost use Rattle.rules.specs.Refusals.{misnamed, misplaced, late, bad_read, bad_write, bad_head, damaged, row_refusal};
 ghost use Rattle.seats.specs.Heads.{head_of, HeadOf, head_row, admission, numbered};
-ghost use Rattle.seats.specs.Promises.{PlaceIs, StoredAt, RowIs, RowGiven, RowFreed, ReadEntryAt, WriteEntryAt, ReadEntryIs, WriteEntryIs};
+ghost use Rattle.seats.specs.Promises.{PlaceIs, StoredAt, Filled, GreaterIs, RowIs, RowGiven, RowFreed, ReadEntryAt, WriteEntryAt};
 ghost use Rattle.seats.specs.Search.{found};
-ghost use Rattle.seats.specs.Promises.{UnsizedIs, Admitted};
+ghost use Rattle.seats.specs.Promises.{ReadEntryIs, WriteEntryIs, UnsizedIs, Admitted};
 
 pub mod layout;
 
@@ -44,6 +44,19 @@ pub fn store(list: &mut [u64], i: u64, v: u64)
     if k < list.len() {
         list[k] = v;
     }
+}
+
+// One number throughout a table. This is the library's `fill`, and `greater` its `max`, each under a promise that Promises.antt names.
+pub fn fill(list: &mut [u64], v: u64)
+    ensures { Filled list.old v list.new }
+{
+    list.fill(v);
+}
+
+pub fn greater(a: u64, b: u64) -> u64
+    ensures { GreaterIs a b result }
+{
+    a.max(b)
 }
 
 // A SEAT'S ROW
@@ -84,7 +97,7 @@ pub fn free_row(seats: &mut [u64], seat: u64)
     let n = seats.len() as u64;
     let from = row_from(n, seat);
     let to = (from + ROW_WIDTH).min(n);
-    seats[from as usize..to as usize].fill(0);
+    fill(&mut seats[from as usize..to as usize], 0);
 }
 
 // ITS ENTRIES

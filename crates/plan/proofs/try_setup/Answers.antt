@@ -27,8 +27,6 @@ pub returns : goal.returns
 unfolding setup setup_refusal
 returns c =
     let started = good_start _ c.fresh.ensures c.in_ok-word.was in
-    let filled = c.fill.ensures.after (λ y e. e) in
-    let cleared = c.fill-2.ensures.after (λ y e. e) in
     simp (
       ← c.is_unsized.ensures,
       c.if-is_unsized.false,
@@ -36,7 +34,7 @@ returns c =
       ← c.is_bad_plan.ensures,
       c.if-is_bad_plan.false,
       c.lay.ensures,
-      cleared,
-      filled,
+      c.fill-2.ensures,
+      c.fill.ensures,
       started.1,
     )

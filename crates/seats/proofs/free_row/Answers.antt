@@ -3,5 +3,4 @@ use Rattle.seats.specs.RowPart.{freed-part}
 use Rattle.seats.proofs.free_row.Goals as goal
 
 pub returns : goal.returns
-returns c =
-    freed-part _ _ c.row_from-from.ensures c.min-to.ensures (c.fill.ensures.after (λ y e. e))
+returns c = freed-part _ _ c.row_from-from.ensures c.min-to.ensures c.fill.ensures
