@@ -153,6 +153,8 @@ impl Step<'_> {
         answer
     }
 
+    // Where it is a call, the step has to stand in memory, and each Advance takes a tenth more time.
+    #[inline(always)]
     fn abort(&mut self, why: Abort) -> Answer
         requires { Holding self.old }
         ensures { Takes (λ t s. let_go t s (Aborted (abort_number why))) self.old result self.new }
